@@ -1,0 +1,9 @@
+pub mod Steps
+pub mod Rounding
+pub mod Fractions
+pub mod Order
+pub mod Arithmetic
+pub mod Signs
+pub mod Zero
+pub mod Tolerance
+pub mod Middle

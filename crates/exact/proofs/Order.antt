@@ -1,0 +1,157 @@
+-- Comparisons of finite numbers as an order of whole numbers. A number's place is its distance in steps from -overflow, so that every
+-- comparison of the format's numbers, of either sign, is one of places, and so is the exact gap.
+use mathlib.Core.Path.{_≡_}
+use mathlib.Core.Logic.{_⊎_, inl, inr, _↔_}
+use mathlib.Core.Bool.{Bool, true, false, not, cond, _&&_, _||_, Bool·beq, true≢false}
+use Prim.Native.Nat.{ℕ, _+_, _-_, _*_, _^_, _≤_, _<_}
+use native.Mathlib.Nat.{le-of-eq, le-of-lt, lt-of-le-of-lt, eq-or-lt-of-le}
+use native.Mathlib.Omega.{arith}
+use lib.Dec.{T, eqb, ltb→lt, lt→ltb, eqb→eq, T-not}
+use lib.Pow.{pow-pos}
+use lib.Ieee.{Float, nan, inf, fin, Format, low, up, down, below, level, round, lt, eq, le}
+use lib.Ieee.Fits.{eq→eqb, and-i, and-l, and-r, round-fits}
+use lib.Ieee.Scale.{overflow}
+use Rattle.exact.specs.Numbers.{isFinite, Number, minus, steps, distance, gap}
+use Rattle.exact.proofs.Steps.{steps-lt}
+use Rattle.exact.proofs.Rounding.{rounded, round-steps, round-finite, round-minus}
+use Rattle.exact.proofs.Fractions.{scaled-below, scaled-level, left, right, denominators-pos}
+
+or-split : (a b : Bool) → T (a || b) → T a ⊎ T b
+or-split true b t = inl tt
+or-split false b t = inr t
+
+or-l : (a b : Bool) → T a → T (a || b)
+or-l true b t = tt
+or-l false b t = absurd t
+
+or-r : (a b : Bool) → T b → T (a || b)
+or-r true b t = tt
+or-r false b t = t
+
+-- ---- the comparisons, in signs and steps
+
+pub lt-steps : (f : Format) (x y : Float) → Number f x → Number f y → lt x y ≡ below (minus x) (steps f x) (minus y) (steps f y)
+unfolding lt
+lt-steps f nan y h k = absurd (h .1)
+lt-steps f (inf s) y h k = absurd (h .1)
+lt-steps f (fin s m e) nan h k = absurd (k .1)
+lt-steps f (fin s m e) (inf t) h k = absurd (k .1)
+lt-steps f (fin s m e) (fin t n d) h k =
+    scaled-below (2 ^ low f) (down e * down d) (pow-pos (low f)) (denominators-pos f s m e t n d h k) s t (m * up e * down d) (n * up d * down e)
+    (steps f (fin s m e)) (steps f (fin t n d)) (left f s m e t n d h k) (right f s m e t n d h k)
+
+pub eq-steps : (f : Format) (x y : Float) → Number f x → Number f y → eq x y ≡ level (minus x) (steps f x) (minus y) (steps f y)
+unfolding eq
+eq-steps f nan y h k = absurd (h .1)
+eq-steps f (inf s) y h k = absurd (h .1)
+eq-steps f (fin s m e) nan h k = absurd (k .1)
+eq-steps f (fin s m e) (inf t) h k = absurd (k .1)
+eq-steps f (fin s m e) (fin t n d) h k =
+    scaled-level (2 ^ low f) (down e * down d) (pow-pos (low f)) (denominators-pos f s m e t n d h k) s t (m * up e * down d) (n * up d * down e)
+    (steps f (fin s m e)) (steps f (fin t n d)) (left f s m e t n d h k) (right f s m e t n d h k)
+
+-- ---- the place on the line
+
+abbrev pub along : ℕ → Bool → ℕ → ℕ
+along o s a = cond s (o - a) (o + a)
+
+unfoldable pub place : Format → Float → ℕ
+place f x = along (overflow f) (minus x) (steps f x)
+
+alike : (a b : ℕ) → T (eqb a b && true) ↔ (a ≡ b)
+alike a b = (λ h. eqb→eq a b (and-l (eqb a b) true h), λ e. and-i (eqb a b) true (eq→eqb e) tt)
+
+noughts : (a b : ℕ) → T (eqb a b && eqb a 0) ↔ ((a ≡ b) × (a ≡ 0))
+noughts a b = (
+  (λ h. (eqb→eq a b (and-l (eqb a b) (eqb a 0) h), eqb→eq a 0 (and-r (eqb a b) (eqb a 0) h))),
+  λ e. and-i (eqb a b) (eqb a 0) (eq→eqb (e .0)) (eq→eqb (e .1)),
+)
+
+module _ (o : ℕ) where
+  below-along : (s t : Bool) (a b : ℕ) → a < o → b < o → T (below s a t b) ↔ (along o s a < along o t b)
+  below-along false false a b A B = (λ h. omega (arith, ltb→lt a b h), λ h. lt→ltb a b (omega arith))
+  below-along false true a b A B = (λ h. absurd h, λ h. omega arith)
+  below-along true false a b A B = (λ h. omega (arith, ltb→lt 0 (a + b) h), λ h. lt→ltb 0 (a + b) (omega arith))
+  below-along true true a b A B = (λ h. omega (arith, ltb→lt b a h), λ h. lt→ltb b a (omega arith))
+
+  level-along : (s t : Bool) (a b : ℕ) → a < o → b < o → T (level s a t b) ↔ (along o s a ≡ along o t b)
+  level-along false false a b A B = (λ h. omega (arith, alike a b .0 h), λ h. alike a b .1 (omega arith))
+  level-along false true a b A B = (λ h. omega (arith, noughts a b .0 h), λ h. noughts a b .1 (omega arith))
+  level-along true false a b A B = (λ h. omega (arith, noughts a b .0 h), λ h. noughts a b .1 (omega arith))
+  level-along true true a b A B = (λ h. omega (arith, alike a b .0 h), λ h. alike a b .1 (omega arith))
+
+  gap-along : (s t : Bool) (a b : ℕ) → a < o → b < o → cond (Bool·beq s t) (distance a b) (a + b) ≡ distance (along o s a) (along o t b)
+  gap-along false false a b A B = omega arith
+  gap-along false true a b A B = omega arith
+  gap-along true false a b A B = omega arith
+  gap-along true true a b A B = omega arith
+
+-- ---- the laws, for two finite numbers
+
+module _ (f : Format) (x y : Float) (h : Number f x) (k : Number f y) where
+  X : steps f x < overflow f
+  X = steps-lt f x (h .0)
+
+  Y : steps f y < overflow f
+  Y = steps-lt f y (k .0)
+
+  pub lt-place : T (lt x y) ↔ (place f x < place f y)
+  unfolding place
+  lt-place = rw (lt-steps f x y h k) (below-along (overflow f) (minus x) (minus y) (steps f x) (steps f y) X Y)
+
+  pub eq-place : T (eq x y) ↔ (place f x ≡ place f y)
+  unfolding place
+  eq-place = rw (eq-steps f x y h k) (level-along (overflow f) (minus x) (minus y) (steps f x) (steps f y) X Y)
+
+  pub le-place : T (le x y) ↔ (place f x ≤ place f y)
+  unfolding le
+  le-place = (
+    (λ t. elim (or-split (lt x y) (eq x y) t) [ inl u ↦ le-of-lt (lt-place .0 u) | inr u ↦ le-of-eq (eq-place .0 u) ]),
+    λ l. elim (eq-or-lt-of-le l) [ inl u ↦ or-r (lt x y) (eq x y) (eq-place .1 u) | inr u ↦ or-l (lt x y) (eq x y) (lt-place .1 u) ],
+  )
+
+  pub gap-place : gap f x y ≡ distance (place f x) (place f y)
+  unfolding gap place
+  gap-place = gap-along (overflow f) (minus x) (minus y) (steps f x) (steps f y) X Y
+
+-- where the one does not lie below the other, the other is at most the one
+pub le-of-not-lt : (f : Format) (x y : Float) → Number f x → Number f y → T (not (lt x y)) → T (le y x)
+le-of-not-lt f x y h k n = le-place f y x k h .1 (at-most (λ l. T-not (lt x y) n (lt-place f x y h k .1 l)))
+  where
+    at-most : (place f x < place f y → ⊥) → place f y ≤ place f x
+    at-most g = omega arith
+
+-- ---- a rounded fraction against a number that is not minus
+
+finite-below : (z y : Float) → minus z ≡ false → T (isFinite y) → T (le z y) → T (isFinite z)
+unfolding le lt eq
+finite-below nan y s k t = absurd t
+finite-below (inf true) y s k t = absurd (true≢false s)
+finite-below (inf false) nan s k t = absurd k
+finite-below (inf false) (inf u) s k t = absurd k
+finite-below (inf false) (fin u n d) s k t = absurd t
+finite-below (fin u m e) y s k t = tt
+
+module _ (f : Format) (a c : ℕ) (y : Float) (k : Number f y) (plus : minus y ≡ false) where
+  on-line : (r : rounded f a c < overflow f) → (place f (round f false a c) ≡ overflow f + rounded f a c) × (place f y ≡ overflow f + steps f y)
+  unfolding place
+  on-line r =
+      let v = round-steps f false a c r in
+      (rw (v .1, v .0), rw plus)
+
+  pub round-le : T (le (round f false a c) y) ↔ (rounded f a c ≤ steps f y)
+  round-le = (there, back)
+    where
+      number : rounded f a c < overflow f → Number f (round f false a c)
+      number r = (round-fits f false a c, round-steps f false a c r .2)
+
+      there : T (le (round f false a c) y) → rounded f a c ≤ steps f y
+      there t =
+          let r = round-finite f false a c (finite-below (round f false a c) y (round-minus f false a c) (k .1) t) in
+          let l : overflow f + rounded f a c ≤ overflow f + steps f y = rw (← on-line r .0, ← on-line r .1) (le-place f (round f false a c) y (number r) k .0 t) in
+          omega arith
+
+      back : rounded f a c ≤ steps f y → T (le (round f false a c) y)
+      back l =
+          let r : rounded f a c < overflow f = lt-of-le-of-lt l (steps-lt f y (k .0)) in
+          le-place f (round f false a c) y (number r) k .1 (rw (on-line r .0, on-line r .1) (omega arith))

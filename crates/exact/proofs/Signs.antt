@@ -1,0 +1,79 @@
+-- The signs of sums, products and quotients, NaN and infinities included: `minus` is false of a NaN, so "not minus" is "NaN, or the sign
+-- bit clear", which sums, products and quotients keep. What is not minus is never below zero, so a sum of squares never is.
+use mathlib.Core.Path.{_≡_, refl, sym, _∙_}
+use mathlib.Core.Bool.{Bool, true, false, cond, true≢false}
+use Prim.Native.Nat.{ℕ, _+_, _*_, zero-le}
+use native.Mathlib.Nat.{le-trans, le-of-eq, zero-mul}
+use borrow.Author.Tests.{le-ltb}
+use lib.Dec.{eqb}
+use lib.Ieee.{Float, nan, inf, fin, Format, binary64, up, down, unlike, round, sum, add, mul, div, lt, ofBits}
+use Rattle.exact.specs.Numbers.{minus, _⊕_, _⊗_}
+use Rattle.exact.specs.Numbers.{zero as nought}
+use Rattle.exact.proofs.Rounding.{round-minus}
+
+-- ---- a sum of two that are not minus
+
+sum-plus : (f : Format) (a b c : ℕ) → minus (sum f false a false b c) ≡ false
+unfolding sum
+sum-plus f a b c = round-minus f false (a + b) c
+
+pub add-plus : (f : Format) (x y : Float) → minus x ≡ false → minus y ≡ false → minus (add f x y) ≡ false
+unfolding add
+add-plus f nan y h k = refl
+add-plus f (inf true) y h k = absurd (true≢false h)
+add-plus f (inf false) nan h k = refl
+add-plus f (inf false) (inf true) h k = refl
+add-plus f (inf false) (inf false) h k = refl
+add-plus f (inf false) (fin t n d) h k = refl
+add-plus f (fin true m e) y h k = absurd (true≢false h)
+add-plus f (fin false m e) nan h k = refl
+add-plus f (fin false m e) (inf t) h k = k
+add-plus f (fin false m e) (fin true n d) h k = absurd (true≢false k)
+add-plus f (fin false m e) (fin false n d) h k = sum-plus f (m * up e * down d) (n * up d * down e) (down e * down d)
+
+-- ---- a product and a quotient of two of one sign
+
+alike : (s t : Bool) → s ≡ t → unlike s t ≡ false
+alike true true e = refl
+alike true false e = absurd (true≢false e)
+alike false true e = absurd (true≢false (sym e))
+alike false false e = refl
+
+either : (b : Bool) (x y : Float) → minus x ≡ false → minus y ≡ false → minus (cond b x y) ≡ false
+either true x y h k = h
+either false x y h k = k
+
+pub mul-plus : (f : Format) (x y : Float) → minus x ≡ minus y → minus (mul f x y) ≡ false
+unfolding mul
+mul-plus f nan y e = refl
+mul-plus f (inf s) nan e = refl
+mul-plus f (inf s) (inf t) e = alike s t e
+mul-plus f (inf s) (fin t n d) e = either (eqb n 0) nan (inf (unlike s t)) refl (alike s t e)
+mul-plus f (fin s m a) nan e = refl
+mul-plus f (fin s m a) (inf t) e = either (eqb m 0) nan (inf (unlike s t)) refl (alike s t e)
+mul-plus f (fin s m a) (fin t n d) e = round-minus f (unlike s t) (m * up a * (n * up d)) (down a * down d) ∙ alike s t e
+
+pub div-plus : (f : Format) (x y : Float) → minus x ≡ minus y → minus (div f x y) ≡ false
+unfolding div
+div-plus f nan y e = refl
+div-plus f (inf s) nan e = refl
+div-plus f (inf s) (inf t) e = refl
+div-plus f (inf s) (fin t n d) e = alike s t e
+div-plus f (fin s m a) nan e = refl
+div-plus f (fin s m a) (inf t) e = alike s t e
+div-plus f (fin s m a) (fin t n d) e =
+    either (eqb n 0) (cond (eqb m 0) nan (inf (unlike s t))) (round f (unlike s t) (m * up a * down d) (n * up d * down a))
+    (either (eqb m 0) nan (inf (unlike s t)) refl (alike s t e))
+    (round-minus f (unlike s t) (m * up a * down d) (n * up d * down a) ∙ alike s t e)
+
+-- ---- what is not minus is not below zero
+
+pub not-below-zero : (x : Float) → minus x ≡ false → lt x nought ≡ false
+unfolding lt ofBits
+not-below-zero nan h = refl
+not-below-zero (inf s) h = h
+not-below-zero (fin true m e) h = absurd (true≢false h)
+not-below-zero (fin false m e) h = le-ltb (m * up e * 1) (0 * down e) (le-trans (le-of-eq (zero-mul (down e))) zero-le)
+
+pub three-squares : (a b c : Float) → minus (a ⊗ a ⊕ b ⊗ b ⊕ c ⊗ c) ≡ false
+three-squares a b c = add-plus binary64 (a ⊗ a ⊕ b ⊗ b) (c ⊗ c) (add-plus binary64 (a ⊗ a) (b ⊗ b) (mul-plus binary64 a a refl) (mul-plus binary64 b b refl)) (mul-plus binary64 c c refl)
