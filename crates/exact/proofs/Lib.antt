@@ -5,5 +5,6 @@ pub mod Order
 pub mod Arithmetic
 pub mod Signs
 pub mod Zero
+pub mod Words
 pub mod Tolerance
 pub mod Middle

@@ -114,12 +114,22 @@ module _ (f : Format) (x y : Float) (h : Number f x) (k : Number f y) where
   unfolding gap place
   gap-place = gap-along (overflow f) (minus x) (minus y) (steps f x) (steps f y) X Y
 
--- where the one does not lie below the other, the other is at most the one
-pub le-of-not-lt : (f : Format) (x y : Float) → Number f x → Number f y → T (not (lt x y)) → T (le y x)
-le-of-not-lt f x y h k n = le-place f y x k h .1 (at-most (λ l. T-not (lt x y) n (lt-place f x y h k .1 l)))
-  where
-    at-most : (place f x < place f y → ⊥) → place f y ≤ place f x
-    at-most g = omega arith
+-- where the one does not lie below the other, the other is at most the one; and lies below it where the two are not equal either
+module _ (f : Format) (x y : Float) (h : Number f x) (k : Number f y) (n : T (not (lt x y))) where
+  at-most : place f y ≤ place f x
+  at-most = go (λ l. T-not (lt x y) n (lt-place f x y h k .1 l))
+    where
+      go : (place f x < place f y → ⊥) → place f y ≤ place f x
+      go g = omega arith
+
+  pub le-of-not-lt : T (le y x)
+  le-of-not-lt = le-place f y x k h .1 at-most
+
+  pub lt-of-neither : T (not (eq x y)) → T (lt y x)
+  lt-of-neither e = lt-place f y x k h .1 (go (λ q. T-not (eq x y) e (eq-place f x y h k .1 q)))
+    where
+      go : (place f x ≡ place f y → ⊥) → place f y < place f x
+      go g = omega (arith, at-most)
 
 -- ---- a rounded fraction against a number that is not minus
 

@@ -6,12 +6,12 @@ use mathlib.Core.Path.{_≡_, refl, sym, ap, _∙_, subst}
 use mathlib.Core.Logic.{_⊎_, inl, inr}
 use mathlib.Core.Bool.{Bool, true, false, not, cond}
 use Prim.Native.Nat.{ℕ, zero, suc, _+_, _-_, _*_, _/_, _%_, _^_, _≤_, _<_, zero-le, compare, Ordering, Ordering·lt, Ordering·eq, Ordering·gt}
-use native.Mathlib.Nat.{le-trans, le-of-eq, le-of-lt, le-antisymm, lt-of-le-of-lt, sub-add-cancel, le-of-mul-le-mul-right, lt-of-lt-of-le, mul-assoc, mul-comm, mul-right-comm, mul-le-mul-right, mul-pos, mod-lt, div-add-mod', le-div-iff-mul-le, eq-of-mul-eq-mul-right}
+use native.Mathlib.Nat.{le-trans, le-of-eq, le-of-lt, le-antisymm, lt-of-le-of-lt, sub-add-cancel, add-sub-cancel-left, pow-succ', le-of-mul-le-mul-right, lt-of-lt-of-le, mul-assoc, mul-comm, mul-right-comm, mul-le-mul-right, mul-pos, mod-lt, div-add-mod', le-div-iff-mul-le, eq-of-mul-eq-mul-right}
 use native.Mathlib.Omega.{arith}
 use lib.Dec.{T, isLe, isEq, ltb, leb→le, nleb→lt, eqb→eq, ltb→lt, nltb→le}
 use lib.Pow.{pow-add, pow-pos, pow-mono, shl-lt}
 use lib.Ieee.{Float, nan, inf, fin, Format, prec, emax, low, size, nearest, odd, units, round, fits}
-use lib.Ieee.Digits.{size-reaches}
+use lib.Ieee.Digits.{size-lt, size-le, size-reaches}
 use lib.Ieee.Fits.{two, two-le-pos, round-is, round-fits}
 use lib.Ieee.Exact.{HasValue, units-val}
 use lib.Ieee.Nearest.{closest}
@@ -83,6 +83,25 @@ half-unit f a c h =
     let k = drop (prec f) n c in
     let e : kept (prec f) n c * (c * 2 ^ k) ≡ kept (prec f) n c * 2 ^ k * c = ap (λ (z : ℕ). kept (prec f) n c * z) (mul-comm c (2 ^ k)) ∙ sym (mul-assoc (kept (prec f) n c) (2 ^ k) c) in
     subst (λ (z : ℕ). 2 * distance z n ≤ 2 ^ k * c) e (le-trans (closest-half n (c * 2 ^ k) (mul-pos h (pow-pos k))) (le-of-eq (mul-comm c (2 ^ k))))
+
+-- what is rounded is a whole number of units
+pub in-units : (f : Format) (a c : ℕ) → (k : ℕ) × (rounded f a c ≡ k * unit f a c)
+unfolding rounded unit
+in-units f a c = (kept (prec f) (a * 2 ^ low f) c, refl)
+
+digits : (w d : ℕ) → 2 ^ d ≤ 2 * w → w < 2 ^ d → size w ≡ d
+digits w d lo hi = le-antisymm (size-le w d hi) (at-least (λ g. over w (2 ^ size w) (2 ^ d) (size-lt w) lo (le-trans (le-of-eq (sym (pow-succ' 2 (size w)))) (pow-mono g))))
+  where
+    over : (a b c : ℕ) → a < b → c ≤ 2 * a → 2 * b ≤ c → ⊥
+    over a b c h k l = omega arith
+
+    at-least : (size w < d → ⊥) → d ≤ size w
+    at-least n = omega arith
+
+-- a fraction whose whole part, in steps, has j digits more than the format keeps has the unit 2 ^ j
+pub unit-is : (f : Format) (a c j : ℕ) → 2 ^ (prec f + j) ≤ 2 * (a * 2 ^ low f / c) → a * 2 ^ low f / c < 2 ^ (prec f + j) → unit f a c ≡ 2 ^ j
+unfolding unit
+unit-is f a c j lo hi = ap (λ (z : ℕ). 2 ^ (z - prec f)) (digits (a * 2 ^ low f / c) (prec f + j) lo hi) ∙ ap (λ (z : ℕ). 2 ^ z) (add-sub-cancel-left (prec f) j)
 
 -- ---- nothing is nearer than the rounded value
 

@@ -117,10 +117,10 @@ steps-lt f (fin s m e) h =
     (lt-of-lt-of-le l (le-of-eq (mul-right-comm (2 ^ suc (emax f)) (down e) (2 ^ low f) ∙ ap (λ (n : ℕ). n * down e) (mul-comm (2 ^ suc (emax f)) (2 ^ low f) ∙ sym (pow-add 2 (low f) (suc (emax f))))))))
 
 -- the word is made of the sign and the steps alone
-word-of : Format → Bool → ℕ → ℕ
+unfoldable pub word-of : Format → Bool → ℕ → ℕ
 word-of f s n = cond s (top f) 0 + (size n - prec f) * hid f + n / 2 ^ (size n - prec f)
 
-toBits-steps : (f : Format) (x : Float) → T (isFinite x) → toBits f x ≡ word-of f (minus x) (steps f x)
+pub toBits-steps : (f : Format) (x : Float) → T (isFinite x) → toBits f x ≡ word-of f (minus x) (steps f x)
 unfolding toBits steps word-of
 toBits-steps f nan k = absurd k
 toBits-steps f (inf s) k = absurd k

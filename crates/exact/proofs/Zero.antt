@@ -1,13 +1,18 @@
--- Zero beside a finite number that is not minus: 0 + x and x - 0 are x.
+-- Zero beside a finite number: 0 + x and x - 0 are x where x is not minus, and what lies above zero is not minus and some steps.
 use mathlib.Core.Path.{_≡_, refl, ap, _∙_}
-use mathlib.Core.Bool.{false}
-use Prim.Native.Nat.{ℕ, _^_, zero-le}
+use mathlib.Core.Logic.{_↔_}
+use mathlib.Core.Bool.{Bool, true, false, true≢false}
+use Prim.Native.Nat.{ℕ, _+_, _-_, _^_, _<_, zero-le}
 use native.Mathlib.Nat.{zero-add, sub-zero}
-use lib.Ieee.{Float, binary64, low, round, ofBits}
+use native.Mathlib.Omega.{arith}
+use lib.Dec.{T}
+use lib.Ieee.{Float, binary64, low, round, lt, ofBits}
 use lib.Ieee.Bits.{ofBits-fits}
+use lib.Ieee.Scale.{overflow}
 use Rattle.exact.specs.Numbers.{Number, minus, steps, _⊕_, _⊖_}
 use Rattle.exact.specs.Numbers.{zero as nought}
 use Rattle.exact.proofs.Rounding.{round-same-number}
+use Rattle.exact.proofs.Order.{along, place, lt-place}
 use Rattle.exact.proofs.Arithmetic.{sum-alike, sum-unlike, add-steps, sub-steps}
 
 pub nought-number : Number binary64 nought
@@ -41,3 +46,20 @@ module _ (x : Float) (h : Number binary64 x) (plus : minus x ≡ false) where
   less-zero =
       sub-steps binary64 x nought h nought-number
       ∙ rw (nought-steps, nought-plus, plus) (sum-unlike binary64 false (steps binary64 x) 0 unit zero-le ∙ ap (λ (n : ℕ). round binary64 false n unit) (sub-zero (steps binary64 x)) ∙ itself)
+
+-- ---- above zero
+
+module _ (x : Float) (h : Number binary64 x) where
+  apart : (o a : ℕ) (s : Bool) → (o + 0 < along o s a) ↔ ((s ≡ false) × (0 < a))
+  apart o a true = ((λ l. absurd (not-past l)), λ p. absurd (true≢false (p .0)))
+    where
+      not-past : o + 0 < o - a → ⊥
+      not-past l = omega arith
+  apart o a false = ((λ l. (refl, omega arith)), λ p. omega (arith, p .1))
+
+  pub positive-is : T (lt nought x) ↔ ((minus x ≡ false) × (0 < steps binary64 x))
+  unfolding place
+  positive-is =
+      let a = apart (overflow binary64) (steps binary64 x) (minus x) in
+      let l = lt-place binary64 nought x nought-number h in
+      (λ t. a .0 (rw (nought-plus, nought-steps) at (l .0 t)), λ p. l .1 (rw (nought-plus, nought-steps) (a .1 p)))

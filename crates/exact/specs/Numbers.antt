@@ -8,7 +8,6 @@ use lib.Ieee.{Float, nan, inf, fin, Format, binary64, low, up, down, add, sub, m
 -- "each + - * / rounds once to nearest even", "left to right unless brackets say otherwise"
 infixl 65 _⊕_ _⊖_
 infixl 70 _⊗_ _⊘_
-
 abbrev pub _⊕_ : Float → Float → Float
 _⊕_ x y = add binary64 x y
 

@@ -1,17 +1,13 @@
 -- The root: document 01, "Numbers", and refusals 1 and 13. Definitions only.
 use mathlib.Core.Path.{_≡_}
-use mathlib.Core.Bool.{Bool, not, false, cond}
-use Prim.Native.Nat.{ℕ, zero, suc, _+_, _-_, _*_, _/_, _^_, _<_}
-use lib.Dec.{T, leb}
-use lib.Ieee.{Float, binary64, fits, round, lt, eq}
-use Rattle.exact.specs.Numbers.{isFinite, minus, steps} 
+use mathlib.Core.Bool.{not, false, cond}
+use Prim.Native.Nat.{ℕ, _+_, _-_, _*_, _^_, _<_}
+use lib.Dec.{T}
+use lib.Ieee.{Float, binary64, round, lt, eq}
+use Rattle.exact.specs.Numbers.{isFinite, Number, minus, steps}
 use Rattle.exact.specs.Numbers.{zero as nought}
 use Rattle.root.specs.Said.{Said, root, refused}
-
--- the largest whole number whose square is at most n, for an n below 4 ^ k: that of n / 4, doubled, and one more where its square is still at most n
-unfoldable pub wholeRoot : ℕ → ℕ → ℕ
-wholeRoot zero n = 0
-wholeRoot (suc k) n = let r = 2 * wholeRoot k (n / 4) in cond (leb ((r + 1) * (r + 1)) n) (r + 1) r
+use Rattle.root.specs.Whole.{wholeRoot}
 
 -- A number x of u steps of 2^-1074 has the root of u * 2^1074 as its root, in steps. This is u * 2^1074, which lies below 4 ^ 1586.
 unfoldable pub radicand : Float → ℕ
@@ -20,7 +16,7 @@ radicand x = steps binary64 x * 2 ^ 1074
 -- "the binary64 number nearest the exact square root": the whole part of the root, in steps, and half a step, rounded. The half takes
 -- the place of the fraction that was cut off: no number midway between two binary64 numbers lies within that step.
 unfoldable pub nearestRoot : Float → Float
-nearestRoot x = round binary64 false (2 * wholeRoot 1586 (radicand x) + 1) (2 ^ 1075)
+nearestRoot x = round binary64 false (2 * wholeRoot 1586 (radicand x) + 1) (2 * 2 ^ 1074)
 
 -- root, for every input
 unfoldable pub rootOf : Float → Said
@@ -35,11 +31,10 @@ sum y r = cond (minus y) (steps binary64 r - steps binary64 y) (steps binary64 r
 -- No finite binary64 number y is as near the exact root of x as r is: if y lies below r, the middle of the two lies below the root, and
 -- if y lies above r, above it. The middle is (y + r) / 2, and its square is compared with the radicand.
 pub record Nearest (x r : Float) : Type 0 where
-  pub fits : T (fits binary64 r)
-  pub finite : T (isFinite r)
+  pub number : Number binary64 r
   pub positive : T (lt nought r)
-  pub below : (y : Float) → T (lib.Ieee.fits binary64 y) → T (isFinite y) → T (lt y r) → sum y r * sum y r < 4 * radicand x
-  pub above : (y : Float) → T (lib.Ieee.fits binary64 y) → T (isFinite y) → T (lt r y) → 4 * radicand x < sum y r * sum y r
+  pub below : (y : Float) → Number binary64 y → T (lt y r) → sum y r * sum y r < 4 * radicand x
+  pub above : (y : Float) → Number binary64 y → T (lt r y) → 4 * radicand x < sum y r * sum y r
 
 -- what s has to be, for every input x
 pub record IsRoot (x : Float) (s : Said) : Type 0 where

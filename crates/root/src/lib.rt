@@ -5,6 +5,7 @@
 ghost use mathlib.Core.Path.{_≡_};
 ghost use Rattle.root.specs.Root.{rootOf};
 ghost use Rattle.root.specs.Said.{numberOf, said};
+
 mod digits;
 
 // Why a root is refused.

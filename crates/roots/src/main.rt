@@ -18,7 +18,11 @@ fn main() {
         at += 8;
     }
     if at < got {
-        if at == PLACES { io::write_all(STDOUT_FILENO, b"more\n"); } else { io::write_all(STDOUT_FILENO, b"short\n"); }
+        if at == PLACES {
+            io::write_all(STDOUT_FILENO, b"more\n");
+        } else {
+            io::write_all(STDOUT_FILENO, b"short\n");
+        }
     }
 }
 

@@ -1,0 +1,58 @@
+-- The definition of the root by its cases: not finite, below zero, zero, and above zero, where the number has a shape.
+use mathlib.Core.Path.{_≡_, sym, ap, _∙_, subst}
+use mathlib.Core.Bool.{Bool, true, false, not}
+use Prim.Native.Nat.{ℕ, _+_, _*_, _/_, _^_, _<_}
+use native.Mathlib.Omega.{arith}
+use lib.Dec.{T}
+use lib.Ieee.{Float, binary64, lt, eq, ofBits, toBits}
+use lib.Ieee.Bits.{ofBits-toBits}
+use Rattle.exact.specs.Numbers.{isFinite, Number, minus, steps}
+use Rattle.exact.specs.Numbers.{zero as nought}
+use Rattle.exact.proofs.Order.{lt-of-neither}
+use Rattle.exact.proofs.Zero.{nought-number, positive-is}
+use Rattle.exact.proofs.Words.{positive-word}
+use Rattle.root.specs.Said.{Said, root, refused}
+use Rattle.root.specs.Whole.{wholeRoot, InForm}
+use Rattle.root.specs.Root.{nearestRoot, rootOf}
+use Rattle.root.proofs.Whole.{wholeRoot-is}
+use Rattle.root.proofs.Form.{has-form}
+use Rattle.root.proofs.Shape.{Shape, written, is-nearestRoot}
+
+pub refuses-not-finite : (x : Float) → isFinite x ≡ false → rootOf x ≡ refused 1
+unfolding rootOf
+refuses-not-finite x a = rw a
+
+module _ (x : Float) (finite : isFinite x ≡ true) where
+  pub refuses-below-zero : lt x nought ≡ true → rootOf x ≡ refused 13
+  unfolding rootOf
+  refuses-below-zero b = rw (finite, b)
+
+  pub keeps-zero : lt x nought ≡ false → eq x nought ≡ true → rootOf x ≡ root x
+  unfolding rootOf
+  keeps-zero b z = rw (finite, b, z)
+
+  pub finds-root : lt x nought ≡ false → eq x nought ≡ false → rootOf x ≡ root (nearestRoot x)
+  unfolding rootOf
+  finds-root b z = rw (finite, b, z)
+
+-- ---- above zero
+
+-- neither below zero nor zero
+pub above-zero : (x : Float) → Number binary64 x → lt x nought ≡ false → eq x nought ≡ false → (minus x ≡ false) × (0 < steps binary64 x)
+above-zero x h b z = positive-is x h .0 (lt-of-neither binary64 x nought h nought-number (failed b) (failed z))
+  where
+    failed : {t : Bool} → t ≡ false → T (not t)
+    failed e = subst (λ (b : Bool). T (not b)) (sym e) tt
+
+-- the word of such a number, and the shape of its root
+pub word-between : (x : Float) → Number binary64 x → (minus x ≡ false) × (0 < steps binary64 x) → (0 < toBits binary64 x) × (toBits binary64 x < 0x7ff0_0000_0000_0000)
+word-between x h p = positive-word binary64 x h (p .0) (p .1)
+
+pub shape : (x : Float) → Number binary64 x → (minus x ≡ false) × (0 < steps binary64 x) → Shape x (nearestRoot x)
+shape x h p =
+    let w = word-between x h p in
+    let f = has-form (toBits binary64 x) (w .0) (w .1) in
+    let form : InForm (steps binary64 x) (f .0) (f .1) = rw (ofBits-toBits binary64 x (h .0)) at (f .2) in
+    let s = wholeRoot 54 (f .0 * 2 ^ 54) in
+    let a = written x (f .0) (f .1) s form (wholeRoot-is 54 (f .0 * 2 ^ 54) (omega (arith, form .most))) in
+    subst (Shape x) (is-nearestRoot x (ofBits binary64 ((f .1 + 1) * 2 ^ 52 + (s + 1) / 2)) (h .0) a) a

@@ -1,0 +1,4 @@
+pub mod Whole
+pub mod Form
+pub mod Shape
+pub mod Cases
