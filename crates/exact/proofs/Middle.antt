@@ -16,7 +16,7 @@ use Rattle.exact.specs.Numbers.{Number, two, middle, minus, steps, _⊕_
 use Rattle.exact.specs.Numbers.{zero as nought}
 use Rattle.exact.proofs.Steps.{steps-lt}
 use Rattle.exact.proofs.Rounding.{rounded, rounded-le, round-steps}
-use Rattle.exact.proofs.Order.{along, place, le-place}
+use Rattle.exact.proofs.Order.{along, place, le-place, plus-le}
 use Rattle.exact.proofs.Zero.{nought-number, nought-steps, nought-plus, zero-plus, less-zero}
 use Rattle.exact.proofs.Arithmetic.{sum-unlike, neg-number, add-steps, div-steps}
 
@@ -50,18 +50,11 @@ half-within x h plus =
 
 -- ---- forwards
 
-plus-le : (x y : Float) → Number binary64 x → Number binary64 y → minus x ≡ false → minus y ≡ false → steps binary64 x ≤ steps binary64 y → T (le x y)
-unfolding place
-plus-le x y h k p q l = le-place binary64 x y h k .1 (rw (p, q) (sums-le (overflow binary64) l))
-  where
-    sums-le : (o : ℕ) {a b : ℕ} → a ≤ b → o + a ≤ o + b
-    sums-le o h = omega arith
-
 pub middle-forwards : (x : Float) → Number binary64 x → minus x ≡ false → T (le nought (middle nought x)) × T (le (middle nought x) x)
 middle-forwards x h plus =
     let w = half-within x h plus in
     let is : middle nought x ≡ x ⊘ two = ap (λ (z : Float). nought ⊕ z ⊘ two) (less-zero x h plus) ∙ zero-plus (x ⊘ two) (w .number) (w .plus) in
-    rw is (plus-le nought (x ⊘ two) nought-number (w .number) nought-plus (w .plus) (rw nought-steps zero-le), plus-le (x ⊘ two) x (w .number) h (w .plus) plus (w .most))
+    rw is (plus-le binary64 nought (x ⊘ two) nought-number (w .number) nought-plus (w .plus) .1 (rw nought-steps zero-le), plus-le binary64 (x ⊘ two) x (w .number) h (w .plus) plus .1 (w .most))
 
 -- ---- backwards
 

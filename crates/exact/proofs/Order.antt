@@ -1,12 +1,12 @@
 -- Comparisons of finite numbers as an order of whole numbers. A number's place is its distance in steps from -overflow, so that every
 -- comparison of the format's numbers, of either sign, is one of places, and so is the exact gap.
 use mathlib.Core.Path.{_≡_}
-use mathlib.Core.Logic.{_⊎_, inl, inr, _↔_}
+use mathlib.Core.Logic.{_⊎_, inl, inr, _↔_, Iff·trans}
 use mathlib.Core.Bool.{Bool, true, false, not, cond, _&&_, _||_, Bool·beq, true≢false}
 use Prim.Native.Nat.{ℕ, _+_, _-_, _*_, _^_, _≤_, _<_}
 use native.Mathlib.Nat.{le-of-eq, le-of-lt, lt-of-le-of-lt, eq-or-lt-of-le}
 use native.Mathlib.Omega.{arith}
-use lib.Dec.{T, eqb, ltb→lt, lt→ltb, eqb→eq, T-not}
+use lib.Dec.{T, eqb, ltb→lt, lt→ltb, eqb→eq, T-not, not-T}
 use lib.Pow.{pow-pos}
 use lib.Ieee.{Float, nan, inf, fin, Format, low, up, down, below, level, round, lt, eq, le}
 use lib.Ieee.Fits.{eq→eqb, and-i, and-l, and-r, round-fits}
@@ -114,6 +114,29 @@ module _ (f : Format) (x y : Float) (h : Number f x) (k : Number f y) where
   unfolding gap place
   gap-place = gap-along (overflow f) (minus x) (minus y) (steps f x) (steps f y) X Y
 
+-- of two that are not minus, the steps compare
+from-the-same : (o a b : ℕ) → ((o + a ≤ o + b) ↔ (a ≤ b)) × ((o + a < o + b) ↔ (a < b))
+from-the-same o a b = omega arith
+
+module _ (f : Format) (x y : Float) (h : Number f x) (k : Number f y) (p : minus x ≡ false) (q : minus y ≡ false) where
+  pub plus-le : T (le x y) ↔ (steps f x ≤ steps f y)
+  unfolding place
+  plus-le = Iff·trans (rw (p, q) at (le-place f x y h k)) (from-the-same (overflow f) (steps f x) (steps f y) .0)
+
+  pub plus-lt : T (lt x y) ↔ (steps f x < steps f y)
+  unfolding place
+  plus-lt = Iff·trans (rw (p, q) at (lt-place f x y h k)) (from-the-same (overflow f) (steps f x) (steps f y) .1)
+
+-- of below, equal and above one holds
+module _ (f : Format) (x y : Float) (h : Number f x) (k : Number f y) where
+  pub above-alone : T (lt y x) → T (not (lt x y)) × T (not (eq x y))
+  above-alone t =
+      let l = lt-place f y x k h .0 t in
+      (not-T (lt x y) (λ u. let m = lt-place f x y h k .0 u in omega arith), not-T (eq x y) (λ u. let m = eq-place f x y h k .0 u in omega arith))
+
+  pub equal-alone : T (eq x y) → T (not (lt x y))
+  equal-alone t = let e = eq-place f x y h k .0 t in not-T (lt x y) (λ u. let m = lt-place f x y h k .0 u in omega arith)
+
 -- where the one does not lie below the other, the other is at most the one; and lies below it where the two are not equal either
 module _ (f : Format) (x y : Float) (h : Number f x) (k : Number f y) (n : T (not (lt x y))) where
   at-most : place f y ≤ place f x
@@ -143,25 +166,13 @@ finite-below (inf false) (fin u n d) s k t = absurd t
 finite-below (fin u m e) y s k t = tt
 
 module _ (f : Format) (a c : ℕ) (y : Float) (k : Number f y) (plus : minus y ≡ false) where
-  on-line : (r : rounded f a c < overflow f) → (place f (round f false a c) ≡ overflow f + rounded f a c) × (place f y ≡ overflow f + steps f y)
-  unfolding place
-  on-line r =
+  in-steps : rounded f a c < overflow f → T (le (round f false a c) y) ↔ (rounded f a c ≤ steps f y)
+  in-steps r =
       let v = round-steps f false a c r in
-      (rw (v .1, v .0), rw plus)
+      rw (v .0) at (plus-le f (round f false a c) y (round-fits f false a c, v .2) k (v .1) plus)
 
   pub round-le : T (le (round f false a c) y) ↔ (rounded f a c ≤ steps f y)
-  round-le = (there, back)
-    where
-      number : rounded f a c < overflow f → Number f (round f false a c)
-      number r = (round-fits f false a c, round-steps f false a c r .2)
-
-      there : T (le (round f false a c) y) → rounded f a c ≤ steps f y
-      there t =
-          let r = round-finite f false a c (finite-below (round f false a c) y (round-minus f false a c) (k .1) t) in
-          let l : overflow f + rounded f a c ≤ overflow f + steps f y = rw (← on-line r .0, ← on-line r .1) (le-place f (round f false a c) y (number r) k .0 t) in
-          omega arith
-
-      back : rounded f a c ≤ steps f y → T (le (round f false a c) y)
-      back l =
-          let r : rounded f a c < overflow f = lt-of-le-of-lt l (steps-lt f y (k .0)) in
-          le-place f (round f false a c) y (number r) k .1 (rw (on-line r .0, on-line r .1) (omega arith))
+  round-le = (
+    (λ t. in-steps (round-finite f false a c (finite-below (round f false a c) y (round-minus f false a c) (k .1) t)) .0 t),
+    λ l. in-steps (lt-of-le-of-lt l (steps-lt f y (k .0))) .1 l,
+  )

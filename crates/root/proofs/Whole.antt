@@ -51,7 +51,7 @@ without-factor {n} {p} {r} h a =
     let over : (r + 1) * (r + 1) ≤ (r / p + 1) * p * ((r / p + 1) * p) = square-le (omega arith) in
     record { low = le-of-mul-le-mul-right {k = p * p} (omega arith) (mul-pos h h); high = lt-of-mul-lt-mul-right (p * p) (omega arith) }
 
-pow-double : (h : ℕ) → 2 ^ (2 * h) ≡ 2 ^ h * 2 ^ h
+pub pow-double : (h : ℕ) → 2 ^ (2 * h) ≡ 2 ^ h * 2 ^ h
 pow-double h = ap (λ (k : ℕ). 2 ^ k) (two-mul h) ∙ pow-add 2 h h
 
 -- the root of n moved up by 2 * h digits has h digits to spare: cut off, they leave the root of n

@@ -1,0 +1,112 @@
+-- The theorems on the root. The definition's root has the property that document 01 asks for (`definition-holds`): it is the nearest among
+-- all finite binary64 numbers, by comparing squares. Two results with the property coincide (`one-root`). So contract and property are
+-- the same statement, on every input (`contract-is-property`), and two answers that meet the contract coincide (`one-answer`).
+use mathlib.Core.Path.{_≡_, refl, sym, ap, _∙_, subst}
+use mathlib.Core.Logic.{_↔_}
+use mathlib.Core.Bool.{Bool, true, false, not}
+use Prim.Native.Nat.{ℕ, _*_, _<_}
+use native.Mathlib.Nat.{lt-trans, lt-irrefl, add-comm}
+use native.Mathlib.Omega.{arith}
+use lib.Dec.{T}
+use lib.Ieee.{Float, nan, inf, fin, binary64, fits, lt, eq, ofBits}
+use lib.Ieee.Bits.{is-true, is-false}
+use Rattle.exact.specs.Numbers.{isFinite, Number, minus, steps}
+use Rattle.exact.specs.Numbers.{zero as nought}
+use Rattle.exact.proofs.Steps.{same-number}
+use Rattle.exact.proofs.Order.{plus-lt, above-alone, equal-alone, lt-of-neither}
+use Rattle.exact.proofs.Zero.{nought-number, positive-is}
+use Rattle.root.specs.declared.Answer.{Answer}
+use Rattle.root.specs.declared.Answer.the-variants.{Root, Refused}
+use Rattle.root.specs.declared.Reason.{Reason}
+use Rattle.root.specs.declared.Reason.the-variants.{NotFinite, BelowZero}
+use Rattle.root.specs.Said.{Said, root, refused, numberOf, said}
+use Rattle.root.specs.Root.{radicand, sum, nearestRoot, rootOf, Nearest, IsRoot}
+use Rattle.root.proofs.Cases.{refuses-not-finite, refuses-below-zero, keeps-zero, finds-root, shape}
+use Rattle.root.proofs.Nearest.{is-nearest}
+
+-- ---- the definition has the property
+
+-- what equals zero is finite
+zero-finite : (x : Float) → T (eq x nought) → T (isFinite x)
+unfolding eq ofBits
+zero-finite nan z = absurd z
+zero-finite (inf s) z = absurd z
+zero-finite (fin s m e) z = tt
+
+pub definition-holds : (x : Float) → T (fits binary64 x) → IsRoot x (rootOf x)
+definition-holds x h = record {
+  not-finite = λ n. refuses-not-finite x (is-false (isFinite x) n);
+  below-zero = λ k b. refuses-below-zero x (is-true (isFinite x) k) (is-true (lt x nought) b);
+  at-zero = λ z. keeps-zero x (is-true (isFinite x) (zero-finite x z)) (is-false (lt x nought) (equal-alone binary64 x nought (h, zero-finite x z) nought-number z)) (is-true (eq x nought) z);
+  above-zero = λ k p.
+      let alone = above-alone binary64 x nought (h, k) nought-number p in
+      (nearestRoot x, finds-root x (is-true (isFinite x) k) (is-false (lt x nought) (alone .0)) (is-false (eq x nought) (alone .1)), is-nearest x (nearestRoot x) (shape x (h, k) (positive-is x (h, k) .0 p)));
+}
+
+-- ---- one result has it
+
+module _ (x r t : Float) (a : Nearest x r) (b : Nearest x t) where
+  r-plus : minus r ≡ false
+  r-plus = positive-is r (a .number) .0 (a .positive) .0
+
+  t-plus : minus t ≡ false
+  t-plus = positive-is t (b .number) .0 (b .positive) .0
+
+  -- the middle of the two is one number
+  sum-symmetric : sum r t ≡ sum t r
+  unfolding sum
+  sum-symmetric = rw (r-plus, t-plus) (add-comm (steps binary64 t) (steps binary64 r))
+
+  -- which cannot lie both below the root and above it
+  not-lower : steps binary64 r < steps binary64 t → ⊥
+  not-lower l =
+      let low = plus-lt binary64 r t (a .number) (b .number) r-plus t-plus .1 l in
+      let below : sum t r * sum t r < 4 * radicand x = subst (λ (n : ℕ). n * n < 4 * radicand x) sum-symmetric (b .below r (a .number) low) in
+      lt-irrefl (4 * radicand x) (lt-trans (a .above t (b .number) low) below)
+
+pub one-nearest : (x r t : Float) → Nearest x r → Nearest x t → r ≡ t
+one-nearest x r t a b =
+    same-number binary64 r t (a .number) (b .number) (r-plus x r t a b ∙ sym (t-plus x r t a b)) (neither (steps binary64 r) (steps binary64 t) (not-lower x r t a b) (not-lower x t r b a))
+  where
+    neither : (m n : ℕ) → (m < n → ⊥) → (n < m → ⊥) → m ≡ n
+    neither m n h k = omega arith
+
+pub one-root : (x : Float) (s t : Said) → T (fits binary64 x) → IsRoot x s → IsRoot x t → s ≡ t
+one-root x s t h a b = go (isFinite x) (lt x nought) (eq x nought) refl refl refl
+  where
+    yes-it : {c : Bool} → c ≡ true → T c
+    yes-it e = subst T (sym e) tt
+
+    no-it : {c : Bool} → c ≡ false → T (not c)
+    no-it e = subst (λ (c : Bool). T (not c)) (sym e) tt
+
+    go : (k l z : Bool) → isFinite x ≡ k → lt x nought ≡ l → eq x nought ≡ z → s ≡ t
+    go false l z e f g = a .not-finite (no-it e) ∙ sym (b .not-finite (no-it e))
+    go true true z e f g = a .below-zero (yes-it e) (yes-it f) ∙ sym (b .below-zero (yes-it e) (yes-it f))
+    go true false true e f g = a .at-zero (yes-it g) ∙ sym (b .at-zero (yes-it g))
+    go true false false e f g =
+        let p = lt-of-neither binary64 x nought (h, yes-it e) nought-number (no-it f) (no-it g) in
+        let u = a .above-zero (yes-it e) p in
+        let v = b .above-zero (yes-it e) p in
+        u .1 ∙ ap root (one-nearest x (u .0) (v .0) (u .2) (v .2)) ∙ sym (v .1)
+
+-- ---- the contract and the property, and the coincidence of two answers
+
+pub contract-is-property : (x : Float) → T (fits binary64 x) → (s : Said) → (s ≡ rootOf x) ↔ IsRoot x s
+contract-is-property x h s = ((λ e. subst (IsRoot x) (sym e) (definition-holds x h)), λ a. one-root x s (rootOf x) h a (definition-holds x h))
+
+reason-once : (v w : Reason) → refused (numberOf v) ≡ refused (numberOf w) → v ≡ w
+reason-once NotFinite NotFinite e = refl
+reason-once NotFinite BelowZero e = let z : _≡_ {A = ℕ} 1 13 = cc in absurd (omega arith)
+reason-once BelowZero NotFinite e = let z : _≡_ {A = ℕ} 13 1 = cc in absurd (omega arith)
+reason-once BelowZero BelowZero e = refl
+
+-- no two answers say the same
+pub said-once : (a b : Answer) → said a ≡ said b → a ≡ b
+said-once (Root x) (Root y) e = cc
+said-once (Root x) (Refused w) e = cc
+said-once (Refused v) (Root y) e = cc
+said-once (Refused v) (Refused w) e = ap Refused (reason-once v w e)
+
+pub one-answer : (x : Float) (a b : Answer) → said a ≡ rootOf x → said b ≡ rootOf x → a ≡ b
+one-answer x a b p q = said-once a b (p ∙ sym q)
