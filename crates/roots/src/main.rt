@@ -4,42 +4,55 @@
 use libc::STDIN_FILENO;
 use libc::STDOUT_FILENO;
 use root::Answer;
-use root::Reason;
+ghost use Prim.Native.Nat.{_+_, _≤_, _<_};
+ghost use lib.ListN.{length};
 
-// 65,536 words and one byte more, by which input beyond the last place is seen.
-const PLACES: usize = 524288;
+// The input is taken in blocks of 512 words; 128 blocks are 65,536 words.
+const BLOCKS: u32 = 128;
 
 fn main() {
-    let mut space = [0u8; 524289];
+    let mut blocks = 0u32;
+    while blocks < BLOCKS {
+        if !block() {
+            return;
+        }
+        blocks += 1;
+    }
+    beyond();
+}
+
+// Reads one block and writes its lines. Answers whether the input may go on.
+fn block() -> bool {
+    let mut space = io::buffer();
     let got = io::read_full(STDIN_FILENO, &mut space);
+    let at = answers(&space[..got]);
+    if at < got {
+        io::write_all(STDOUT_FILENO, b"short\n");
+    }
+    got == 4096
+}
+
+// The line for input beyond the last place, where there is any.
+fn beyond() {
+    let mut space = [0u8; 1];
+    if 0 < io::read_full(STDIN_FILENO, &mut space) {
+        io::write_all(STDOUT_FILENO, b"more\n");
+    }
+}
+
+// A line for each whole word of s. Answers where the rest begins, in which there is none.
+fn answers(s: &[u8]) -> usize {
     let mut at = 0;
-    while at + 8 <= got && at < PLACES {
-        answer(word(&space[at..]));
+    while 8 <= s.len() - at {
+        answer(word(s, at));
         at += 8;
     }
-    if at < got {
-        if at == PLACES {
-            io::write_all(STDOUT_FILENO, b"more\n");
-        } else {
-            io::write_all(STDOUT_FILENO, b"short\n");
-        }
-    }
+    at
 }
 
-// The first eight bytes of s, the lowest first.
-fn word(s: &[u8]) -> u64 {
-    let mut w = 0;
-    let mut i = 8;
-    while 0 < i {
-        i -= 1;
-        w = w * 256 + s[i] as u64;
-    }
-    w
-}
-
+// The line of one word.
 fn answer(w: u64) {
-    let r = root::root(exact::number(w));
-    match r {
+    match root::root(exact::number(w)) {
         Answer::Root(x) => {
             io::write_all(STDOUT_FILENO, b"root ");
             io::print_hex(STDOUT_FILENO, exact::word(x), 16);
@@ -50,4 +63,27 @@ fn answer(w: u64) {
         }
     }
     io::write_all(STDOUT_FILENO, b"\n");
+}
+
+// The eight bytes of s from index at on as a word, the lowest first.
+fn word(s: &[u8], at: usize) -> u64
+    requires { ⌜ at + 8 ≤ length (now s) ⌝ }
+{
+    half(s, at) + half(s, at + 4) * 0x1_0000_0000
+}
+
+fn half(s: &[u8], at: usize) -> u64
+    requires { ⌜ at + 4 ≤ length (now s) ⌝ }
+    ensures { λ r. ⌜ r < 0x1_0000_0000 ⌝ }
+{
+    wide(s[at])
+        + wide(s[at + 1]) * 0x100
+        + wide(s[at + 2]) * 0x1_0000
+        + wide(s[at + 3]) * 0x100_0000
+}
+
+fn wide(b: u8) -> u64
+    ensures { λ r. ⌜ r < 256 ⌝ }
+{
+    b as u64
 }
