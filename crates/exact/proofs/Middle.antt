@@ -1,19 +1,17 @@
 -- The middle lo + (hi - lo) / 2 of the starting bracket lies in it: of 0 and X forwards, and of -X and 0 backwards, for every finite X not
 -- minus. With a the steps of X and h those of X / 2, h is at most a, since a is a number of the format; what is left is a - h, or h.
-use mathlib.Core.Path.{_≡_, refl, sym, ap, ap₂, _∙_, subst}
-use mathlib.Core.Bool.{Bool, true, false, not, cond, _&&_}
-use Prim.Native.Nat.{ℕ, _+_, _-_, _*_, _^_, _≤_, _<_, zero-le}
+use mathlib.Core.Path.{_≡_, refl, ap, _∙_}
+use mathlib.Core.Bool.{Bool, true, false, not}
+use Prim.Native.Nat.{ℕ, _+_, _-_, _^_, _≤_, _<_, zero-le}
 use native.Mathlib.Nat.{le-of-eq, sub-le, sub-eq-zero-of-le, mul-le-mul-right, le-of-lt, lt-of-le-of-lt, mul-le-mul-left}
 use native.Mathlib.Omega.{arith}
-use lib.IntN.{pos}
 use lib.Dec.{T, ltb, lit<, nltb→le}
 use lib.Pow.{pow-pos}
-use lib.Ieee.{Float, nan, inf, fin, Format, binary64, low, round, neg, sum, add, sub, div, le, ofBits}
+use lib.Ieee.{Float, nan, inf, fin, binary64, low, round, neg, sub, le, ofBits}
 use lib.Ieee.Fits.{round-fits}
 use lib.Ieee.Bits.{ofBits-fits}
 use lib.Ieee.Scale.{overflow}
-use Rattle.exact.specs.Numbers.{Number, two, middle, minus, steps, _⊕_, _⊖_, _⊘_}
-use Rattle.exact.specs.Numbers.{zero as nought}
+use Rattle.exact.specs.Numbers.{nought, Number, two, middle, minus, steps, _⊕_, _⊖_, _⊘_}
 use Rattle.exact.proofs.Steps.{steps-lt}
 use Rattle.exact.proofs.Rounding.{rounded, rounded-le, round-steps}
 use Rattle.exact.proofs.Order.{along, place, le-place, plus-le}

@@ -1,15 +1,17 @@
 -- Comparisons of finite numbers as an order of whole numbers. A number's place is its distance in steps from -overflow, so that every
 -- comparison of the format's numbers, of either sign, is one of places, and so is the exact gap.
-use mathlib.Core.Path.{_≡_}
+use mathlib.Core.Path.{_≡_, refl, _∙_}
 use mathlib.Core.Logic.{_⊎_, inl, inr, _↔_, Iff·trans}
 use mathlib.Core.Bool.{Bool, true, false, not, cond, _&&_, _||_, Bool·beq, true≢false}
 use Prim.Native.Nat.{ℕ, _+_, _-_, _*_, _^_, _≤_, _<_}
 use native.Mathlib.Nat.{le-of-eq, le-of-lt, lt-of-le-of-lt, eq-or-lt-of-le}
 use native.Mathlib.Omega.{arith}
+use lib.IntN.{ℤ}
 use lib.Dec.{T, eqb, ltb→lt, lt→ltb, eqb→eq, T-not, not-T}
 use lib.Pow.{pow-pos}
 use lib.Ieee.{Float, nan, inf, fin, Format, low, up, down, below, level, round, lt, eq, le}
 use lib.Ieee.Fits.{eq→eqb, and-i, and-l, and-r, round-fits}
+use lib.Ieee.Order.{round-mono}
 use lib.Ieee.Scale.{overflow}
 use Rattle.exact.specs.Numbers.{isFinite, Number, minus, steps, distance, gap}
 use Rattle.exact.proofs.Steps.{steps-lt}
@@ -30,25 +32,33 @@ or-r false b t = t
 
 -- ---- the comparisons, in signs and steps
 
-pub lt-steps : (f : Format) (x y : Float) → Number f x → Number f y → lt x y ≡ below (minus x) (steps f x) (minus y) (steps f y)
-unfolding lt
-lt-steps f nan y h k = absurd (h .1)
-lt-steps f (inf s) y h k = absurd (h .1)
-lt-steps f (fin s m e) nan h k = absurd (k .1)
-lt-steps f (fin s m e) (inf t) h k = absurd (k .1)
-lt-steps f (fin s m e) (fin t n d) h k =
-    scaled-below (2 ^ low f) (down e * down d) (pow-pos (low f)) (denominators-pos f s m e t n d h k) s t (m * up e * down d) (n * up d * down e)
-    (steps f (fin s m e)) (steps f (fin t n d)) (left f s m e t n d h k) (right f s m e t n d h k)
+-- a comparison by a test on fractions over one denominator, which the denominator does not matter to
+module _ (compared : Float → Float → Bool) (test : Bool → ℕ → Bool → ℕ → Bool)
+    (over-one : (s : Bool) (m : ℕ) (e : ℤ) (t : Bool) (n : ℕ) (d : ℤ) → compared (fin s m e) (fin t n d) ≡ test s (m * up e * down d) t (n * up d * down e))
+    (scales : (L D : ℕ) → 0 < L → 0 < D → (s t : Bool) (X Y a b : ℕ) → X * L ≡ a * D → Y * L ≡ b * D → test s X t Y ≡ test s a t b) where
+  by-steps : (f : Format) (x y : Float) → Number f x → Number f y → compared x y ≡ test (minus x) (steps f x) (minus y) (steps f y)
+  by-steps f nan y h k = absurd (h .1)
+  by-steps f (inf s) y h k = absurd (h .1)
+  by-steps f (fin s m e) nan h k = absurd (k .1)
+  by-steps f (fin s m e) (inf t) h k = absurd (k .1)
+  by-steps f (fin s m e) (fin t n d) h k =
+      over-one s m e t n d
+      ∙ scales (2 ^ low f) (down e * down d) (pow-pos (low f)) (denominators-pos f s m e t n d h k) s t (m * up e * down d) (n * up d * down e)
+      (steps f (fin s m e)) (steps f (fin t n d)) (left f s m e t n d h k) (right f s m e t n d h k)
 
-pub eq-steps : (f : Format) (x y : Float) → Number f x → Number f y → eq x y ≡ level (minus x) (steps f x) (minus y) (steps f y)
+lt-over-one : (s : Bool) (m : ℕ) (e : ℤ) (t : Bool) (n : ℕ) (d : ℤ) → lt (fin s m e) (fin t n d) ≡ below s (m * up e * down d) t (n * up d * down e)
+unfolding lt
+lt-over-one s m e t n d = refl
+
+eq-over-one : (s : Bool) (m : ℕ) (e : ℤ) (t : Bool) (n : ℕ) (d : ℤ) → eq (fin s m e) (fin t n d) ≡ level s (m * up e * down d) t (n * up d * down e)
 unfolding eq
-eq-steps f nan y h k = absurd (h .1)
-eq-steps f (inf s) y h k = absurd (h .1)
-eq-steps f (fin s m e) nan h k = absurd (k .1)
-eq-steps f (fin s m e) (inf t) h k = absurd (k .1)
-eq-steps f (fin s m e) (fin t n d) h k =
-    scaled-level (2 ^ low f) (down e * down d) (pow-pos (low f)) (denominators-pos f s m e t n d h k) s t (m * up e * down d) (n * up d * down e)
-    (steps f (fin s m e)) (steps f (fin t n d)) (left f s m e t n d h k) (right f s m e t n d h k)
+eq-over-one s m e t n d = refl
+
+lt-steps : (f : Format) (x y : Float) → Number f x → Number f y → lt x y ≡ below (minus x) (steps f x) (minus y) (steps f y)
+lt-steps = by-steps lt below lt-over-one scaled-below
+
+eq-steps : (f : Format) (x y : Float) → Number f x → Number f y → eq x y ≡ level (minus x) (steps f x) (minus y) (steps f y)
+eq-steps = by-steps eq level eq-over-one scaled-level
 
 -- ---- the place on the line
 
@@ -176,3 +186,9 @@ module _ (f : Format) (a c : ℕ) (y : Float) (k : Number f y) (plus : minus y �
     (λ t. in-steps (round-finite f false a c (finite-below (round f false a c) y (round-minus f false a c) (k .1) t)) .0 t),
     λ l. in-steps (lt-of-le-of-lt l (steps-lt f y (k .0))) .1 l,
   )
+
+-- rounding is monotone, below overflow
+pub rounded-mono : (f : Format) (a c b d : ℕ) → 0 < c → 0 < d → a * d ≤ b * c → rounded f b d < overflow f → rounded f a c ≤ rounded f b d
+rounded-mono f a c b d C D l o =
+    let v = round-steps f false b d o in
+    rw (v .0) at (round-le f a c (round f false b d) (round-fits f false b d, v .2) (v .1) .0 (round-mono f a c b d C D l))

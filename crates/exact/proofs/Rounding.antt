@@ -6,19 +6,19 @@ use mathlib.Core.Path.{_≡_, refl, sym, ap, _∙_, subst}
 use mathlib.Core.Logic.{_⊎_, inl, inr}
 use mathlib.Core.Bool.{Bool, true, false, not, cond}
 use Prim.Native.Nat.{ℕ, zero, suc, _+_, _-_, _*_, _/_, _%_, _^_, _≤_, _<_, zero-le, compare, Ordering, Ordering·lt, Ordering·eq, Ordering·gt}
-use native.Mathlib.Nat.{le-trans, le-of-eq, le-of-lt, le-antisymm, lt-of-le-of-lt, sub-add-cancel, add-sub-cancel-left, pow-succ', le-of-mul-le-mul-right, lt-of-lt-of-le, mul-assoc, mul-comm, mul-right-comm, mul-le-mul-right, mul-pos, mod-lt, div-add-mod', le-div-iff-mul-le, eq-of-mul-eq-mul-right}
+use native.Mathlib.Nat.{le-trans, le-of-eq, le-of-lt, le-antisymm, lt-of-le-of-lt, sub-add-cancel, add-sub-cancel-left, pow-succ', le-of-mul-le-mul-right, mul-assoc, mul-comm, mul-le-mul-right, mul-pos, mod-lt, div-add-mod', le-div-iff-mul-le}
 use native.Mathlib.Omega.{arith}
 use lib.Dec.{T, isLe, isEq, ltb, leb→le, nleb→lt, eqb→eq, ltb→lt, nltb→le}
 use lib.Pow.{pow-add, pow-pos, pow-mono, shl-lt}
-use lib.Ieee.{Float, nan, inf, fin, Format, prec, emax, low, size, nearest, odd, units, round, fits}
+use lib.Ieee.{Float, inf, Format, prec, low, size, nearest, odd, units, round, fits}
 use lib.Ieee.Digits.{size-lt, size-le, size-reaches}
 use lib.Ieee.Fits.{two, two-le-pos, round-is, round-fits}
 use lib.Ieee.Exact.{HasValue, units-val}
 use lib.Ieee.Nearest.{closest}
-use lib.Ieee.Order.{drop, kept, round-mono}
+use lib.Ieee.Order.{drop, kept}
 use lib.Ieee.Scale.{grid, overflow}
 use Rattle.exact.specs.Numbers.{isFinite, Number, magnitude, minus, steps, distance}
-use Rattle.exact.proofs.Steps.{Moved, moved, steps-of-value, steps-lt, same-number}
+use Rattle.exact.proofs.Steps.{moved, steps-of-value, steps-lt, same-number}
 
 -- ---- the nearest whole number to a fraction n / u
 

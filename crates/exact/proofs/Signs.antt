@@ -7,8 +7,7 @@ use native.Mathlib.Nat.{le-trans, le-of-eq, zero-mul}
 use borrow.Author.Tests.{le-ltb}
 use lib.Dec.{eqb}
 use lib.Ieee.{Float, nan, inf, fin, Format, binary64, up, down, unlike, round, sum, add, mul, div, lt, ofBits}
-use Rattle.exact.specs.Numbers.{minus, _⊕_, _⊗_}
-use Rattle.exact.specs.Numbers.{zero as nought}
+use Rattle.exact.specs.Numbers.{nought, minus, _⊕_, _⊗_}
 use Rattle.exact.proofs.Rounding.{round-minus}
 
 -- ---- a sum of two that are not minus

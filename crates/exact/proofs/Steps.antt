@@ -1,7 +1,7 @@
 -- A finite number as a whole number of steps of its format's smallest value: exactly that many, fewer than overflow, and a significand of
 -- the format's digits moved up. Two numbers with the same sign and the same steps are the same number.
 use mathlib.Core.Path.{_≡_, refl, sym, ap, _∙_, subst}
-use mathlib.Core.Bool.{Bool, true, false, cond, _&&_}
+use mathlib.Core.Bool.{Bool, cond, _&&_}
 use Prim.Native.Nat.{ℕ, zero, suc, _+_, _-_, _*_, _/_, _%_, _^_, _≤_, _<_}
 use native.Mathlib.Nat.{le-trans, le-of-eq, lt-of-lt-of-le, not-le-of-lt, mul-one, zero-mul, mul-assoc, mul-comm, mul-right-comm, mul-pos, mul-lt-mul-of-pos-right, lt-of-mul-lt-mul-right, mul-div-cancel, le-mul-of-pos-right}
 use native.Mathlib.Omega.{arith}

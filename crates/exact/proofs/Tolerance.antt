@@ -2,13 +2,13 @@
 -- than the tolerance, since a gap beyond that lies nearer to the next number up (`beyond`). A gap of at most 2^-36 rounds to no more.
 use mathlib.Core.Path.{_≡_, refl, subst}
 use mathlib.Core.Logic.{_↔_}
-use mathlib.Core.Bool.{Bool, true, false}
+use mathlib.Core.Bool.{true, false}
 use Prim.Native.Nat.{ℕ, suc, _+_, _-_, _*_, _^_, _≤_, _<_}
 use native.Mathlib.Nat.{mul-le-mul-right}
 use native.Mathlib.Omega.{arith}
 use lib.Dec.{T}
 use lib.Pow.{pow-pos}
-use lib.Ieee.{Float, nan, inf, fin, Format, binary64, low, fits, neg, add, sub, round, lt, eq, le, ofBits}
+use lib.Ieee.{Float, nan, inf, fin, binary64, low, fits, neg, add, sub, lt, eq, le, ofBits}
 use lib.Ieee.Bits.{ofBits-fits}
 use Rattle.exact.specs.Numbers.{numberOf, tolerance, isFinite, Number, magnitude, isNear, minus, steps, distance, gap, inSteps}
 use Rattle.exact.proofs.Rounding.{rounded, nothing-nearer, rounded-le}
@@ -36,8 +36,8 @@ abbrev next : Float
 next = numberOf 0x3db0_0000_0000_0001
 
 tolerance-number : Number binary64 tolerance
-unfolding ofBits
-tolerance-number = (ofBits-fits binary64 0x3db0_0000_0000_0000, tt)
+unfolding fits ofBits
+tolerance-number = (tt, tt)
 
 tolerance-plus : minus tolerance ≡ false
 unfolding ofBits

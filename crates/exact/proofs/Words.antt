@@ -1,12 +1,12 @@
 -- The number that a word below the infinity's stands for, in steps: the digits themselves where the exponent's field is 0, and else the
 -- digits with the leading one, moved up by one less than the field.
-use mathlib.Core.Path.{_≡_, refl, sym, ap, _∙_, subst}
-use mathlib.Core.Bool.{Bool, true, false, cond}
+use mathlib.Core.Path.{_≡_, sym, ap, _∙_, subst}
+use mathlib.Core.Bool.{Bool, false, cond}
 use Prim.Native.Nat.{ℕ, suc, _+_, _-_, _*_, _/_, _%_, _^_, _≤_, _<_}
-use native.Mathlib.Nat.{one-mul, pow-succ', lt-of-not-le, not-le-of-lt, le-div-iff-mul-le, add-zero, zero-add, mul-one, mul-comm, zero-mul, suc-mul, le-trans, le-of-eq, lt-of-lt-of-le, ne-of-lt, zero-lt-suc, mul-le-mul-right, mul-pos, mul-add-div-right, div-eq-of-lt, mul-add-mod-self-right, mod-eq-of-lt}
+use native.Mathlib.Nat.{one-mul, pow-succ', lt-of-not-le, not-le-of-lt, le-div-iff-mul-le, add-zero, zero-add, mul-one, mul-comm, zero-mul, suc-mul, le-trans, le-of-eq, lt-of-lt-of-le, ne-of-lt, mul-le-mul-right, mul-add-div-right, div-eq-of-lt, mul-add-mod-self-right, mod-eq-of-lt}
 use native.Mathlib.Omega.{arith}
 use borrow.Author.Tests.{lt-leb, ne-eqb}
-use lib.Dec.{leb, eqb}
+use lib.Dec.{eqb}
 use lib.Pow.{pow-pos, pow-mono}
 use lib.Ieee.{Float, inf, nan, Format, prec, emax, low, hid, ones, top, size, odd, ofFields, ofBits, toBits}
 use lib.Ieee.Digits.{size-lt, size-le, size-reaches}

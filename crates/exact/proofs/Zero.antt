@@ -9,8 +9,7 @@ use lib.Dec.{T}
 use lib.Ieee.{Float, binary64, low, round, lt, ofBits}
 use lib.Ieee.Bits.{ofBits-fits}
 use lib.Ieee.Scale.{overflow}
-use Rattle.exact.specs.Numbers.{Number, minus, steps, _⊕_, _⊖_}
-use Rattle.exact.specs.Numbers.{zero as nought}
+use Rattle.exact.specs.Numbers.{nought, Number, minus, steps, _⊕_, _⊖_}
 use Rattle.exact.proofs.Rounding.{round-same-number}
 use Rattle.exact.proofs.Order.{along, place, lt-place}
 use Rattle.exact.proofs.Arithmetic.{sum-alike, sum-unlike, add-steps, sub-steps}

@@ -29,8 +29,8 @@ abbrev pub wordOf : Float → ℕ
 wordOf x = toBits binary64 x
 
 -- constants, by their words
-abbrev pub zero : Float
-zero = numberOf 0x0
+abbrev pub nought : Float
+nought = numberOf 0x0
 
 abbrev pub two : Float
 two = numberOf 0x4000_0000_0000_0000

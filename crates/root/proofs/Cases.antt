@@ -1,18 +1,18 @@
 -- The definition of the root by its cases: not finite, below zero, zero, and above zero, where the number has a shape.
-use mathlib.Core.Path.{_≡_, sym, ap, _∙_, subst}
+use mathlib.Core.Path.{_≡_, sym, subst}
 use mathlib.Core.Bool.{Bool, true, false, not}
-use Prim.Native.Nat.{ℕ, _+_, _*_, _/_, _^_, _<_}
+use Prim.Native.Nat.{_+_, _*_, _/_, _^_, _<_}
 use native.Mathlib.Omega.{arith}
 use lib.Dec.{T}
 use lib.Ieee.{Float, binary64, lt, eq, ofBits, toBits}
 use lib.Ieee.Bits.{ofBits-toBits}
-use Rattle.exact.specs.Numbers.{isFinite, Number, minus, steps}
-use Rattle.exact.specs.Numbers.{zero as nought}
+use Rattle.exact.specs.Numbers.{nought, isFinite, Number, minus, steps}
 use Rattle.exact.proofs.Order.{lt-of-neither}
 use Rattle.exact.proofs.Zero.{nought-number, positive-is}
 use Rattle.exact.proofs.Words.{positive-word}
-use Rattle.root.specs.Said.{Said, root, refused}
-use Rattle.root.specs.Whole.{wholeRoot, InForm}
+use Rattle.root.specs.Said.{root, refused}
+use Rattle.root.specs.Form.{InForm}
+use Rattle.root.specs.Whole.{wholeRoot}
 use Rattle.root.specs.Root.{nearestRoot, rootOf}
 use Rattle.root.proofs.Whole.{wholeRoot-is}
 use Rattle.root.proofs.Form.{has-form}

@@ -1,6 +1,6 @@
 -- How a number of m * 2^c steps comes to the form that its root is taken from: m is moved up by its leading zeros to 53 digits, and what
 -- is left of the exponent is halved; where it is odd, one more digit is moved into v.
-use mathlib.Core.Path.{_≡_, refl, sym, ap, _∙_, subst}
+use mathlib.Core.Path.{_≡_, sym, ap, _∙_, subst}
 use mathlib.Core.Logic.{inl, inr}
 use Prim.Native.Nat.{ℕ, suc, _+_, _-_, _*_, _/_, _%_, _^_, _≤_, _<_}
 use native.Mathlib.Nat.{eq-zero-or-pos, ne-of-gt, add-comm, mul-one, mod-lt, div-add-mod', le-trans, le-of-eq, lt-of-lt-of-le, lt-of-le-of-lt, lt-of-not-le, not-le-of-lt, mul-assoc, mul-le-mul-right, mul-lt-mul-of-pos-right, le-mul-of-pos-right, mul-le-mul-left, suc-add}
@@ -12,7 +12,7 @@ use Rattle.exact.proofs.Steps.{steps-of-value}
 use Rattle.exact.proofs.Words.{subnormal-word, normal-word}
 use lib.Count.{leadingZeros, leading-top}
 use lib.Pow.{pow-add, pow-pos, pow-mono}
-use Rattle.root.specs.Whole.{InForm}
+use Rattle.root.specs.Form.{InForm}
 
 -- m moved up by `up` has 53 digits, and `up` is 11 less than m's leading zeros in a word
 pub record MovedUp (m up : ℕ) : Type 0 where

@@ -3,20 +3,18 @@
 -- 2q, and the square of 2s * B is not above that; if s is odd, it is 2q - 1, no power of two, and its square is below the radicand.
 use mathlib.Core.Path.{_≡_, refl, sym, ap, _∙_, subst}
 use mathlib.Core.Logic.{_⊎_, inl, inr, ⊎-elim}
-use mathlib.Core.Bool.{Bool, true, false, not, cond, true≢false}
-use Prim.Native.Nat.{ℕ, suc, _+_, _-_, _*_, _/_, _%_, _^_, _≤_, _<_, zero-le}
-use native.Mathlib.Nat.{le-trans, le-of-eq, le-of-lt, lt-of-lt-of-le, lt-of-le-of-lt, lt-irrefl, eq-or-lt-of-le, eq-zero-or-pos, add-zero, sub-le, mul-assoc, mul-comm, mul-left-comm, mul-pos, mul-le-mul-right, mul-le-mul-left, lt-of-mul-lt-mul-right, mul-lt-mul-of-pos-right, mul-lt-mul-of-pos-left}
+use mathlib.Core.Bool.{Bool, true, false, not}
+use Prim.Native.Nat.{ℕ, suc, _+_, _-_, _*_, _/_, _%_, _^_, _≤_, _<_}
+use native.Mathlib.Nat.{le-trans, le-of-eq, lt-of-lt-of-le, lt-of-le-of-lt, eq-or-lt-of-le, eq-zero-or-pos, add-zero, sub-le, mul-assoc, mul-comm, mul-pos, mul-le-mul-right, mul-le-mul-left, lt-of-mul-lt-mul-right, mul-lt-mul-of-pos-right, mul-lt-mul-of-pos-left}
 use native.Mathlib.Omega.{arith}
 use lib.Dec.{T, ltb, ltb→lt, nltb→le}
-use lib.Pow.{pow-add, pow-pos, pow-mono, shl-lt}
-use lib.Ieee.{Float, binary64, fits, lt}
+use lib.Pow.{pow-add, pow-pos, pow-mono}
+use lib.Ieee.{Float, binary64, lt}
 use lib.Ieee.Scale.{overflow}
-use Rattle.exact.specs.Numbers.{Number, minus, steps}
-use Rattle.exact.specs.Numbers.{zero as nought}
+use Rattle.exact.specs.Numbers.{nought, Number, minus, steps}
 use Rattle.exact.proofs.Steps.{Moved, moved}
 use Rattle.exact.proofs.Order.{place, lt-place, plus-lt}
-use Rattle.exact.proofs.Zero.{nought-number, nought-steps, nought-plus, positive-is}
-use Rattle.root.specs.Whole.{IsWholeRoot, InForm}
+use Rattle.exact.proofs.Zero.{nought-number, nought-steps, positive-is}
 use Rattle.root.specs.Root.{radicand, sum, Nearest}
 use Rattle.root.proofs.Whole.{square-le, square-lt, leading, no-odd-square, pow-double}
 use Rattle.root.proofs.Shape.{Shape}

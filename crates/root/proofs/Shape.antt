@@ -4,7 +4,7 @@
 use mathlib.Core.Path.{_≡_, sym, ap, ap₂, _∙_, subst}
 use mathlib.Core.Bool.{false}
 use Prim.Native.Nat.{ℕ, suc, _+_, _-_, _*_, _/_, _%_, _^_, _≤_, _<_}
-use native.Mathlib.Nat.{le-trans, le-of-eq, lt-of-lt-of-le, lt-of-le-of-lt, mul-assoc, mul-comm, mul-left-comm, mul-pos, mul-le-mul-right, mul-lt-mul-of-pos-right, le-of-mul-le-mul-right, lt-of-mul-lt-mul-right, mul-div-mul-right, div-add-mod', mod-lt}
+use native.Mathlib.Nat.{mul-comm, mul-left-comm, mul-pos, mul-le-mul-right, le-of-mul-le-mul-right, lt-of-mul-lt-mul-right, mul-div-mul-right, div-add-mod', mod-lt}
 use native.Mathlib.Omega.{arith}
 use lib.Dec.{T}
 use lib.Pow.{pow-add, pow-pos, shl-lt}
@@ -16,7 +16,8 @@ use Rattle.exact.specs.Numbers.{Number, minus, steps, distance}
 use Rattle.exact.proofs.Steps.{steps-of-value, steps-lt, same-number}
 use Rattle.exact.proofs.Rounding.{rounded, unit, half-unit, in-units, unit-is, round-steps}
 use Rattle.exact.proofs.Words.{normal-word}
-use Rattle.root.specs.Whole.{IsWholeRoot, wholeRoot, InForm}
+use Rattle.root.specs.Form.{InForm}
+use Rattle.root.specs.Whole.{IsWholeRoot, wholeRoot}
 use Rattle.root.specs.Root.{radicand, nearestRoot}
 use Rattle.root.proofs.Whole.{wholeRoot-is, scaled, never-all-ones, leading}
 

@@ -10,8 +10,8 @@ use native.Mathlib.Omega.{arith}
 use lib.Dec.{T}
 use lib.Ieee.{Float, nan, inf, fin, binary64, fits, lt, eq, ofBits}
 use lib.Ieee.Bits.{is-true, is-false}
-use Rattle.exact.specs.Numbers.{isFinite, Number, minus, steps}
-use Rattle.exact.specs.Numbers.{zero as nought}
+use Rattle.exact.specs.Numbers.{nought, isFinite, minus, steps}
+use Rattle.exact.proofs.Coincidence.{one-result}
 use Rattle.exact.proofs.Steps.{same-number}
 use Rattle.exact.proofs.Order.{plus-lt, above-alone, equal-alone, lt-of-neither}
 use Rattle.exact.proofs.Zero.{nought-number, positive-is}
@@ -109,4 +109,4 @@ said-once (Refused v) (Root y) e = cc
 said-once (Refused v) (Refused w) e = ap Refused (reason-once v w e)
 
 pub one-answer : (x : Float) (a b : Answer) → said a ≡ rootOf x → said b ≡ rootOf x → a ≡ b
-one-answer x a b p q = said-once a b (p ∙ sym q)
+one-answer x a b p q = said-once a b (one-result p q)

@@ -1,3 +1,4 @@
 pub mod Said
 pub mod Whole
 pub mod Root
+pub mod Form

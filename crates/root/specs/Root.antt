@@ -4,8 +4,7 @@ use mathlib.Core.Bool.{not, false, cond}
 use Prim.Native.Nat.{ℕ, _+_, _-_, _*_, _^_, _<_}
 use lib.Dec.{T}
 use lib.Ieee.{Float, binary64, round, lt, eq}
-use Rattle.exact.specs.Numbers.{isFinite, Number, minus, steps}
-use Rattle.exact.specs.Numbers.{zero as nought}
+use Rattle.exact.specs.Numbers.{nought, isFinite, Number, minus, steps}
 use Rattle.root.specs.Said.{Said, root, refused}
 use Rattle.root.specs.Whole.{wholeRoot}
 

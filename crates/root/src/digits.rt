@@ -8,7 +8,8 @@ ghost use mathlib.Core.Path.{_≡_};
 ghost use Prim.Native.Nat.{_+_, _*_, _^_, _≤_, _<_};
 ghost use lib.Ieee.{ofBits, binary64};
 ghost use Rattle.exact.specs.Numbers.{steps};
-ghost use Rattle.root.specs.Whole.{IsWholeRoot, InForm};
+ghost use Rattle.root.specs.Form.{InForm};
+ghost use Rattle.root.specs.Whole.{IsWholeRoot};
 ghost use Rattle.root.specs.Root.{nearestRoot};
 
 // The weight of the exponent's field in a word.

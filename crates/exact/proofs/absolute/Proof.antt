@@ -1,14 +1,13 @@
 -- `exact::absolute` meets its contract. What is at most 0 is taken from 0, which is exact: an infinity, a number with its sign, or 0 itself.
 -- What is not at most 0 is NaN or has no sign to lose.
 use mathlib.Core.Path.{_≡_, refl, sym, ap, _∙_, subst}
-use mathlib.Core.Bool.{Bool, true, false, true≢false}
+use mathlib.Core.Bool.{true, false, true≢false}
 use Prim.Native.Nat.{ℕ, _+_, _-_, _≤_}
 use native.Mathlib.Omega.{arith}
 use lib.Dec.{T}
 use lib.Ieee.{Float, nan, inf, fin, binary64, fits, neg, add, sub, lt, eq, le, ofBits}
 use lib.Ieee.Scale.{overflow}
-use Rattle.exact.specs.Numbers.{Number, magnitude, minus, steps, _⊖_}
-use Rattle.exact.specs.Numbers.{zero as nought}
+use Rattle.exact.specs.Numbers.{nought, Number, magnitude, minus, steps, _⊖_}
 use Rattle.exact.proofs.Steps.{same-number}
 use Rattle.exact.proofs.Order.{place, le-place}
 use Rattle.exact.proofs.Arithmetic.{neg-number}

@@ -1,11 +1,11 @@
 -- `exact::number` meets its contract: a word above the infinity's, its sign taken off, is a NaN's, and every other is read as it stands.
 use mathlib.Core.Path.{_≡_, refl, sym, _∙_, subst}
-use mathlib.Core.Bool.{Bool, true, false, not, true≢false}
-use Prim.Native.Nat.{ℕ, _%_, _≤_, _<_}
+use mathlib.Core.Bool.{Bool, true, not, true≢false}
+use Prim.Native.Nat.{ℕ, _%_, _<_}
 use borrow.Author.Needs.{needs}
 use borrow.Author.Tests.{lt-ltb, le-ltb}
 use lib.Dec.{T}
-use lib.Ieee.{Float, nan, inf, fin, binary64, div, isNan, nanBits, ofBits}
+use lib.Ieee.{Float, nan, inf, fin, binary64, div, isNan, ofBits}
 use lib.Ieee.Bits.{nanBits-is, nanBits-above}
 use Rattle.exact.specs.Numbers.{numberOf, _⊘_}
 use Rattle.exact.proofs.number.Statement.{statement}

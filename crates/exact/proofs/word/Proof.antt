@@ -1,9 +1,9 @@
 -- `exact::word` meets its contract: only NaN differs from itself, and for it the definition's word is the one written here.
 use mathlib.Core.Path.{_≡_, refl, sym, _∙_, ap, subst}
-use mathlib.Core.Bool.{Bool, true, false, not, true≢false}
+use mathlib.Core.Bool.{false, not, true≢false}
 use borrow.Author.Needs.{needs}
 use lib.Dec.{T}
-use lib.Ieee.{Float, nan, inf, fin, binary64, ne, isNan, toBits}
+use lib.Ieee.{Float, nan, inf, fin, ne, isNan, toBits}
 use lib.Ieee.Compare.{differs-from-itself, nan-differs}
 use Rattle.exact.specs.Numbers.{wordOf}
 use Rattle.exact.proofs.word.Statement.{statement}

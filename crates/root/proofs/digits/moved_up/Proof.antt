@@ -1,12 +1,11 @@
 -- `root::digits::moved_up` meets its contract: the significand moved up loses no digit, and each arm is one of the two cases of `in-form`.
-use mathlib.Core.Path.{_≡_, sym, ap, _∙_, subst}
-use Prim.Native.Nat.{ℕ, _+_, _-_, _*_, _/_, _%_, _^_}
+use mathlib.Core.Path.{_≡_}
+use Prim.Native.Nat.{ℕ, _-_, _*_, _%_, _^_}
 use native.Mathlib.Nat.{lt-of-lt-of-le, mul-one, mod-eq-of-lt}
 use native.Mathlib.Omega.{arith}
 use borrow.Author.Needs.{needs}
 use lib.Dec.{lit≤}
 use lib.Count.{leadingZeros}
-use Rattle.root.specs.Whole.{InForm}
 use Rattle.root.proofs.Form.{MovedUp, moved-up, in-form}
 use Rattle.root.proofs.digits.moved_up.Statement.{statement}
 use Rattle.root.proofs.digits.moved_up.Tie as tie
