@@ -32,10 +32,11 @@ two-steps : 2 ^ low binary64 < steps binary64 two
 unfolding steps ofBits
 two-steps = lit< tt
 
-pub record Within (x y : Float) : Type 0 where
-  pub number : Number binary64 y
-  pub plus : minus y ≡ false
-  pub most : steps binary64 y ≤ steps binary64 x
+-- y is not minus, and no more than x
+record Within (x y : Float) : Type 0 where
+  number : Number binary64 y
+  plus : minus y ≡ false
+  most : steps binary64 y ≤ steps binary64 x
 
 half-within : (x : Float) → Number binary64 x → minus x ≡ false → Within x (x ⊘ two)
 half-within x h plus =

@@ -176,15 +176,15 @@ finite-below (inf false) (fin u n d) s k t = absurd t
 finite-below (fin u m e) y s k t = tt
 
 module _ (f : Format) (a c : ℕ) (y : Float) (k : Number f y) (plus : minus y ≡ false) where
-  in-steps : rounded f a c < overflow f → T (le (round f false a c) y) ↔ (rounded f a c ≤ steps f y)
-  in-steps r =
+  compares : rounded f a c < overflow f → T (le (round f false a c) y) ↔ (rounded f a c ≤ steps f y)
+  compares r =
       let v = round-steps f false a c r in
       rw (v .0) at (plus-le f (round f false a c) y (round-fits f false a c, v .2) k (v .1) plus)
 
   pub round-le : T (le (round f false a c) y) ↔ (rounded f a c ≤ steps f y)
   round-le = (
-    (λ t. in-steps (round-finite f false a c (finite-below (round f false a c) y (round-minus f false a c) (k .1) t)) .0 t),
-    λ l. in-steps (lt-of-le-of-lt l (steps-lt f y (k .0))) .1 l,
+    (λ t. compares (round-finite f false a c (finite-below (round f false a c) y (round-minus f false a c) (k .1) t)) .0 t),
+    λ l. compares (lt-of-le-of-lt l (steps-lt f y (k .0))) .1 l,
   )
 
 -- rounding is monotone, below overflow

@@ -67,6 +67,9 @@ sides k z u = go (ltb z k) (ltb k z) (ltb→lt z k) (ltb→lt k z) (nltb→le z 
 closest-best : (n u z : ℕ) → 0 < u → distance (closest n u * u) n ≤ distance (z * u) n
 closest-best n u z h = other (closest n u) z u n (sides (closest n u) z u) (closest-half n u h)
 
+regroup : (x c u : ℕ) → x * (c * u) ≡ x * u * c
+regroup x c u = ap (λ (y : ℕ). x * y) (mul-comm c u) ∙ sym (mul-assoc x u c)
+
 -- ---- what a / c rounds to, in steps, were there no largest number; and the unit in its last place, in steps
 
 unfoldable pub rounded : Format → ℕ → ℕ → ℕ
@@ -81,8 +84,7 @@ unfolding rounded unit
 half-unit f a c h =
     let n = a * 2 ^ low f in
     let k = drop (prec f) n c in
-    let e : kept (prec f) n c * (c * 2 ^ k) ≡ kept (prec f) n c * 2 ^ k * c = ap (λ (z : ℕ). kept (prec f) n c * z) (mul-comm c (2 ^ k)) ∙ sym (mul-assoc (kept (prec f) n c) (2 ^ k) c) in
-    subst (λ (z : ℕ). 2 * distance z n ≤ 2 ^ k * c) e (le-trans (closest-half n (c * 2 ^ k) (mul-pos h (pow-pos k))) (le-of-eq (mul-comm c (2 ^ k))))
+    subst (λ (z : ℕ). 2 * distance z n ≤ 2 ^ k * c) (regroup (kept (prec f) n c) c (2 ^ k)) (le-trans (closest-half n (c * 2 ^ k) (mul-pos h (pow-pos k))) (le-of-eq (mul-comm c (2 ^ k))))
 
 -- what is rounded is a whole number of units
 pub in-units : (f : Format) (a c : ℕ) → (k : ℕ) × (rounded f a c ≡ k * unit f a c)
@@ -116,9 +118,8 @@ module _ (f : Format) (n c : ℕ) (h : 0 < c) where
   multiple : (z : ℕ) → off (kept (prec f) n c * 2 ^ k) ≤ off (z * 2 ^ k)
   unfolding k off
   multiple z =
-      let back : (x : ℕ) → x * (c * 2 ^ k) ≡ x * 2 ^ k * c = λ x. ap (λ (y : ℕ). x * y) (mul-comm c (2 ^ k)) ∙ sym (mul-assoc x (2 ^ k) c) in
-      subst (λ (y : ℕ). distance y n ≤ off (z * 2 ^ k)) (back (kept (prec f) n c))
-      (subst (λ (y : ℕ). distance (kept (prec f) n c * (c * 2 ^ k)) n ≤ distance y n) (back z) (closest-best n (c * 2 ^ k) z (mul-pos h (pow-pos k))))
+      subst (λ (y : ℕ). distance y n ≤ off (z * 2 ^ k)) (regroup (kept (prec f) n c) c (2 ^ k))
+      (subst (λ (y : ℕ). distance (kept (prec f) n c * (c * 2 ^ k)) n ≤ distance y n) (regroup z c (2 ^ k)) (closest-best n (c * 2 ^ k) z (mul-pos h (pow-pos k))))
 
   -- 2 ^ (prec - 1) units are no more than the fraction, where digits are dropped
   reached : 0 < k → 2 ^ (prec f - 1) * 2 ^ k * c ≤ n

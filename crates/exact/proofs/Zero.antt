@@ -1,6 +1,6 @@
 -- Zero beside a finite number: 0 + x and x - 0 are x where x is not minus, and what lies above zero is not minus and some steps.
 use mathlib.Core.Path.{_≡_, refl, ap, _∙_}
-use mathlib.Core.Logic.{_↔_}
+use mathlib.Core.Logic.{_↔_, Iff·trans}
 use mathlib.Core.Bool.{Bool, true, false, true≢false}
 use Prim.Native.Nat.{ℕ, _+_, _-_, _^_, _<_, zero-le}
 use native.Mathlib.Nat.{zero-add, sub-zero}
@@ -48,17 +48,13 @@ module _ (x : Float) (h : Number binary64 x) (plus : minus x ≡ false) where
 
 -- ---- above zero
 
-module _ (x : Float) (h : Number binary64 x) where
-  apart : (o a : ℕ) (s : Bool) → (o + 0 < along o s a) ↔ ((s ≡ false) × (0 < a))
-  apart o a true = ((λ l. absurd (not-past l)), λ p. absurd (true≢false (p .0)))
-    where
-      not-past : o + 0 < o - a → ⊥
-      not-past l = omega arith
-  apart o a false = ((λ l. (refl, omega arith)), λ p. omega (arith, p .1))
+apart : (o a : ℕ) (s : Bool) → (o + 0 < along o s a) ↔ ((s ≡ false) × (0 < a))
+apart o a true = ((λ l. absurd (not-past l)), λ p. absurd (true≢false (p .0)))
+  where
+    not-past : o + 0 < o - a → ⊥
+    not-past l = omega arith
+apart o a false = ((λ l. (refl, omega arith)), λ p. omega (arith, p .1))
 
-  pub positive-is : T (lt nought x) ↔ ((minus x ≡ false) × (0 < steps binary64 x))
-  unfolding place
-  positive-is =
-      let a = apart (overflow binary64) (steps binary64 x) (minus x) in
-      let l = lt-place binary64 nought x nought-number h in
-      (λ t. a .0 (rw (nought-plus, nought-steps) at (l .0 t)), λ p. l .1 (rw (nought-plus, nought-steps) (a .1 p)))
+pub positive-is : (x : Float) → Number binary64 x → T (lt nought x) ↔ ((minus x ≡ false) × (0 < steps binary64 x))
+unfolding place
+positive-is x h = Iff·trans (rw (nought-plus, nought-steps) at (lt-place binary64 nought x nought-number h)) (apart (overflow binary64) (steps binary64 x) (minus x))

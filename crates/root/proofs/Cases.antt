@@ -18,6 +18,13 @@ use Rattle.root.proofs.Whole.{wholeRoot-is}
 use Rattle.root.proofs.Form.{has-form}
 use Rattle.root.proofs.Shape.{Shape, written, is-nearestRoot}
 
+-- what a test found, as the fact that it tests
+pub passed : {t : Bool} → t ≡ true → T t
+passed e = subst T (sym e) tt
+
+pub failed : {t : Bool} → t ≡ false → T (not t)
+failed e = subst (λ (t : Bool). T (not t)) (sym e) tt
+
 pub refuses-not-finite : (x : Float) → isFinite x ≡ false → rootOf x ≡ refused 1
 unfolding rootOf
 refuses-not-finite x a = rw a
@@ -40,9 +47,6 @@ module _ (x : Float) (finite : isFinite x ≡ true) where
 -- neither below zero nor zero
 pub above-zero : (x : Float) → Number binary64 x → lt x nought ≡ false → eq x nought ≡ false → (minus x ≡ false) × (0 < steps binary64 x)
 above-zero x h b z = positive-is x h .0 (lt-of-neither binary64 x nought h nought-number (failed b) (failed z))
-  where
-    failed : {t : Bool} → t ≡ false → T (not t)
-    failed e = subst (λ (b : Bool). T (not b)) (sym e) tt
 
 -- the word of such a number, and the shape of its root
 pub word-between : (x : Float) → Number binary64 x → (minus x ≡ false) × (0 < steps binary64 x) → (0 < toBits binary64 x) × (toBits binary64 x < 0x7ff0_0000_0000_0000)

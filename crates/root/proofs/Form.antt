@@ -53,7 +53,7 @@ in-form m c up d a b D o = record {
   same = exponents m c up d ((c + 53 - up + 967) / 2) 1074 54 (omega arith);
   least = le-trans (a .least) (le-mul-of-pos-right (m * 2 ^ up) (pow-pos d));
   most = omega (arith, mul-le-mul-left (m * 2 ^ up) (pow-mono D));
-  low = omega arith;
+  within = omega arith;
 }
 
 -- ---- the steps of a word

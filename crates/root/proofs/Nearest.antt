@@ -5,7 +5,7 @@ use mathlib.Core.Path.{_≡_, refl, sym, ap, _∙_, subst}
 use mathlib.Core.Logic.{_⊎_, inl, inr, ⊎-elim}
 use mathlib.Core.Bool.{Bool, true, false, not}
 use Prim.Native.Nat.{ℕ, suc, _+_, _-_, _*_, _/_, _%_, _^_, _≤_, _<_}
-use native.Mathlib.Nat.{le-trans, le-of-eq, lt-of-lt-of-le, lt-of-le-of-lt, eq-or-lt-of-le, eq-zero-or-pos, add-zero, sub-le, mul-assoc, mul-comm, mul-pos, mul-le-mul-right, mul-le-mul-left, lt-of-mul-lt-mul-right, mul-lt-mul-of-pos-right, mul-lt-mul-of-pos-left}
+use native.Mathlib.Nat.{le-trans, le-of-eq, lt-of-lt-of-le, lt-of-le-of-lt, eq-or-lt-of-le, eq-zero-or-pos, add-zero, sub-le, mul-assoc, mul-pos, mul-le-mul-right, mul-le-mul-left, lt-of-mul-lt-mul-right, mul-lt-mul-of-pos-right, mul-lt-mul-of-pos-left}
 use native.Mathlib.Omega.{arith}
 use lib.Dec.{T, ltb, ltb→lt, nltb→le}
 use lib.Pow.{pow-add, pow-pos, pow-mono}
@@ -16,7 +16,7 @@ use Rattle.exact.proofs.Steps.{Moved, moved}
 use Rattle.exact.proofs.Order.{place, lt-place, plus-lt}
 use Rattle.exact.proofs.Zero.{nought-number, nought-steps, positive-is}
 use Rattle.root.specs.Root.{radicand, sum, Nearest}
-use Rattle.root.proofs.Whole.{square-le, square-lt, leading, no-odd-square, pow-double}
+use Rattle.root.proofs.Whole.{square-le, square-lt, leading, no-odd-square, pow-next, pow-double}
 use Rattle.root.proofs.Shape.{Shape}
 
 -- ---- the neighbours of q * 2 ^ (h + 1), for a q of 53 digits
@@ -25,9 +25,6 @@ use Rattle.root.proofs.Shape.{Shape}
 kind : (n h : ℕ) → Moved binary64 n → ((z : ℕ) × (n ≡ z * (2 * 2 ^ h))) ⊎ (n + 2 ^ h ≤ 2 ^ 53 * 2 ^ h)
 kind n h m = go (ltb h (m .places)) (ltb→lt h (m .places)) (nltb→le h (m .places))
   where
-    twice : 2 ^ (h + 1) ≡ 2 * 2 ^ h
-    twice = pow-add 2 h 1 ∙ mul-comm (2 ^ h) 2
-
     apart : h < m .places → m .places ≡ m .places - (h + 1) + (h + 1)
     apart l = omega arith
 
@@ -36,7 +33,7 @@ kind n h m = go (ltb h (m .places)) (ltb→lt h (m .places)) (nltb→le h (m .pl
       m .significand * 2 ^ (m .places - (h + 1)),
       m .is
           ∙ ap (λ (p : ℕ). m .significand * 2 ^ p) (apart (a tt))
-          ∙ ap (λ (p : ℕ). m .significand * p) (pow-add 2 (m .places - (h + 1)) (h + 1) ∙ ap (λ (p : ℕ). 2 ^ (m .places - (h + 1)) * p) twice)
+          ∙ ap (λ (p : ℕ). m .significand * p) (pow-add 2 (m .places - (h + 1)) (h + 1) ∙ ap (λ (p : ℕ). 2 ^ (m .places - (h + 1)) * p) (pow-next h))
           ∙ sym (mul-assoc (m .significand) (2 ^ (m .places - (h + 1))) (2 * 2 ^ h)),
     )
     go false a b =
@@ -106,7 +103,7 @@ module _ (x r : Float) (a : Shape x r) where
 
   R : steps binary64 r ≡ q * (2 * 2 ^ a .h)
   unfolding q
-  R = a .is ∙ ap (λ (n : ℕ). (a .s + 1) / 2 * n) (pow-add 2 (a .h) 1 ∙ mul-comm (2 ^ a .h) 2)
+  R = a .is ∙ ap (λ (n : ℕ). (a .s + 1) / 2 * n) (pow-next (a .h))
 
   four : 4 * radicand x ≡ 4 * (a .v * 2 ^ 54 * (2 ^ a .h * 2 ^ a .h))
   unfolding radicand

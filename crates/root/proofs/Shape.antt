@@ -4,7 +4,7 @@
 use mathlib.Core.Path.{_≡_, sym, ap, ap₂, _∙_, subst}
 use mathlib.Core.Bool.{false}
 use Prim.Native.Nat.{ℕ, suc, _+_, _-_, _*_, _/_, _%_, _^_, _≤_, _<_}
-use native.Mathlib.Nat.{mul-comm, mul-left-comm, mul-pos, mul-le-mul-right, le-of-mul-le-mul-right, lt-of-mul-lt-mul-right, mul-div-mul-right, div-add-mod', mod-lt}
+use native.Mathlib.Nat.{mul-left-comm, mul-pos, mul-le-mul-right, le-of-mul-le-mul-right, lt-of-mul-lt-mul-right, mul-div-mul-right, div-add-mod', mod-lt}
 use native.Mathlib.Omega.{arith}
 use lib.Dec.{T}
 use lib.Pow.{pow-add, pow-pos, shl-lt}
@@ -19,7 +19,7 @@ use Rattle.exact.proofs.Words.{normal-word}
 use Rattle.root.specs.Form.{InForm}
 use Rattle.root.specs.Whole.{IsWholeRoot, wholeRoot}
 use Rattle.root.specs.Root.{radicand, nearestRoot}
-use Rattle.root.proofs.Whole.{wholeRoot-is, scaled, never-all-ones, leading}
+use Rattle.root.proofs.Whole.{wholeRoot-is, scaled, never-all-ones, leading, pow-next}
 
 pub record Shape (x r : Float) : Type 0 where
   pub v : ℕ
@@ -40,7 +40,7 @@ written x v h s f w =
     let t = (s + 1) / 2 - 2 ^ 52 in
     let word : suc (h + 1) * 2 ^ 52 + t ≡ (h + 1) * 2 ^ 52 + (s + 1) / 2 = omega arith in
     let digits : 2 ^ 52 + t ≡ (s + 1) / 2 = omega arith in
-    let value = steps-of-value binary64 (ofBits binary64 (suc (h + 1) * 2 ^ 52 + t)) _ ((2 ^ 52 + t) * 2 ^ (h + 1)) (normal-word binary64 (h + 1) t (omega (arith, f .low)) (omega arith)) in
+    let value = steps-of-value binary64 (ofBits binary64 (suc (h + 1) * 2 ^ 52 + t)) _ ((2 ^ 52 + t) * 2 ^ (h + 1)) (normal-word binary64 (h + 1) t (omega (arith, f .within)) (omega arith)) in
     rw (← word) (record {
       v = v;
       h = h;
@@ -73,12 +73,9 @@ module _ (f : Format) (S h s : ℕ) (e : S / 2 ^ h ≡ s) (lo : 2 ^ prec f ≤ s
       cut : (S : ℕ) → (2 * S + 1) / 2 ≡ S
       cut S = omega arith
 
-  twice : 2 ^ (h + 1) ≡ 2 * 2 ^ h
-  twice = pow-add 2 h 1 ∙ mul-comm (2 ^ h) 2
-
   unit-of : unit f (2 * S + 1) (2 * 2 ^ low f) ≡ 2 ^ (h + 1)
   unit-of =
-      let top : 2 ^ (prec f + (h + 1)) ≡ 2 * (2 ^ prec f * 2 ^ h) = pow-add 2 (prec f) (h + 1) ∙ ap (λ (n : ℕ). 2 ^ prec f * n) twice ∙ mul-left-comm (2 ^ prec f) 2 (2 ^ h) in
+      let top : 2 ^ (prec f + (h + 1)) ≡ 2 * (2 ^ prec f * 2 ^ h) = pow-add 2 (prec f) (h + 1) ∙ ap (λ (n : ℕ). 2 ^ prec f * n) (pow-next h) ∙ mul-left-comm (2 ^ prec f) 2 (2 ^ h) in
       let split : s * 2 ^ h + S % 2 ^ h ≡ S = ap (λ (n : ℕ). n * 2 ^ h + S % 2 ^ h) (sym e) ∙ div-add-mod' S (2 ^ h) in
       let small : S % 2 ^ h < 2 ^ h = mod-lt S (pow-pos h) in
       let least : 2 ^ prec f * 2 ^ h ≤ s * 2 ^ h = mul-le-mul-right (2 ^ h) lo in
@@ -88,9 +85,9 @@ module _ (f : Format) (S h s : ℕ) (e : S / 2 ^ h ≡ s) (lo : 2 ^ prec f ≤ s
   rounds-to : rounded f (2 * S + 1) (2 * 2 ^ low f) ≡ (s + 1) / 2 * 2 ^ (h + 1)
   rounds-to =
       let u = in-units f (2 * S + 1) (2 * 2 ^ low f) in
-      let is : rounded f (2 * S + 1) (2 * 2 ^ low f) ≡ u .0 * (2 * 2 ^ h) = u .1 ∙ ap (λ (n : ℕ). u .0 * n) (unit-of ∙ twice) in
-      let d : 2 * distance (u .0 * (2 * 2 ^ h) * (2 * 2 ^ low f)) ((2 * S + 1) * 2 ^ low f) ≤ 2 * 2 ^ h * (2 * 2 ^ low f) = rw (is, unit-of, twice) at (half-unit f (2 * S + 1) (2 * 2 ^ low f) (mul-pos (pow-pos 1) (pow-pos (low f)))) in
-      is ∙ ap₂ (λ (a b : ℕ). a * b) (halfway S (2 ^ h) (2 ^ low f) (u .0) (pow-pos h) (pow-pos (low f)) d ∙ ap (λ (n : ℕ). (n + 1) / 2) e) (sym twice)
+      let is : rounded f (2 * S + 1) (2 * 2 ^ low f) ≡ u .0 * (2 * 2 ^ h) = u .1 ∙ ap (λ (n : ℕ). u .0 * n) (unit-of ∙ pow-next h) in
+      let d : 2 * distance (u .0 * (2 * 2 ^ h) * (2 * 2 ^ low f)) ((2 * S + 1) * 2 ^ low f) ≤ 2 * 2 ^ h * (2 * 2 ^ low f) = rw (is, unit-of, pow-next h) at (half-unit f (2 * S + 1) (2 * 2 ^ low f) (mul-pos (pow-pos 1) (pow-pos (low f)))) in
+      is ∙ ap₂ (λ (a b : ℕ). a * b) (halfway S (2 ^ h) (2 ^ low f) (u .0) (pow-pos h) (pow-pos (low f)) d ∙ ap (λ (n : ℕ). (n + 1) / 2) e) (sym (pow-next h))
 
 -- ---- so it is the definition's root
 

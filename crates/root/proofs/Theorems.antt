@@ -3,7 +3,7 @@
 -- the same statement, on every input (`contract-is-property`), and two answers that meet the contract coincide (`one-answer`).
 use mathlib.Core.Path.{_≡_, refl, sym, ap, _∙_, subst}
 use mathlib.Core.Logic.{_↔_}
-use mathlib.Core.Bool.{Bool, true, false, not}
+use mathlib.Core.Bool.{Bool, true, false}
 use Prim.Native.Nat.{ℕ, _*_, _<_}
 use native.Mathlib.Nat.{lt-trans, lt-irrefl, add-comm}
 use native.Mathlib.Omega.{arith}
@@ -21,7 +21,7 @@ use Rattle.root.specs.declared.Reason.{Reason}
 use Rattle.root.specs.declared.Reason.the-variants.{NotFinite, BelowZero}
 use Rattle.root.specs.Said.{Said, root, refused, numberOf, said}
 use Rattle.root.specs.Root.{radicand, sum, nearestRoot, rootOf, Nearest, IsRoot}
-use Rattle.root.proofs.Cases.{refuses-not-finite, refuses-below-zero, keeps-zero, finds-root, shape}
+use Rattle.root.proofs.Cases.{passed, failed, refuses-not-finite, refuses-below-zero, keeps-zero, finds-root, shape}
 use Rattle.root.proofs.Nearest.{is-nearest}
 
 -- ---- the definition has the property
@@ -74,20 +74,14 @@ one-nearest x r t a b =
 pub one-root : (x : Float) (s t : Said) → T (fits binary64 x) → IsRoot x s → IsRoot x t → s ≡ t
 one-root x s t h a b = go (isFinite x) (lt x nought) (eq x nought) refl refl refl
   where
-    yes-it : {c : Bool} → c ≡ true → T c
-    yes-it e = subst T (sym e) tt
-
-    no-it : {c : Bool} → c ≡ false → T (not c)
-    no-it e = subst (λ (c : Bool). T (not c)) (sym e) tt
-
     go : (k l z : Bool) → isFinite x ≡ k → lt x nought ≡ l → eq x nought ≡ z → s ≡ t
-    go false l z e f g = a .not-finite (no-it e) ∙ sym (b .not-finite (no-it e))
-    go true true z e f g = a .below-zero (yes-it e) (yes-it f) ∙ sym (b .below-zero (yes-it e) (yes-it f))
-    go true false true e f g = a .at-zero (yes-it g) ∙ sym (b .at-zero (yes-it g))
+    go false l z e f g = a .not-finite (failed e) ∙ sym (b .not-finite (failed e))
+    go true true z e f g = a .below-zero (passed e) (passed f) ∙ sym (b .below-zero (passed e) (passed f))
+    go true false true e f g = a .at-zero (passed g) ∙ sym (b .at-zero (passed g))
     go true false false e f g =
-        let p = lt-of-neither binary64 x nought (h, yes-it e) nought-number (no-it f) (no-it g) in
-        let u = a .above-zero (yes-it e) p in
-        let v = b .above-zero (yes-it e) p in
+        let p = lt-of-neither binary64 x nought (h, passed e) nought-number (failed f) (failed g) in
+        let u = a .above-zero (passed e) p in
+        let v = b .above-zero (passed e) p in
         u .1 ∙ ap root (one-nearest x (u .0) (v .0) (u .2) (v .2)) ∙ sym (v .1)
 
 -- ---- the contract and the property, and the coincidence of two answers

@@ -4,7 +4,7 @@ use mathlib.Core.Path.{_≡_, refl, ap, _∙_}
 use mathlib.Core.Bool.{Bool, true, false, cond}
 use mathlib.Core.Logic.{⊎-elim}
 use Prim.Native.Nat.{ℕ, zero, suc, _+_, _-_, _*_, _/_, _%_, _^_, _≤_, _<_}
-use native.Mathlib.Nat.{le-antisymm, lt-of-not-le, not-le-of-lt, mul-le-mul, mul-le-mul-right, lt-of-mul-lt-mul-right, le-of-mul-le-mul-right, mul-pos, div-add-mod', mod-lt, two-mul, eq-zero-or-pos}
+use native.Mathlib.Nat.{le-antisymm, lt-of-not-le, not-le-of-lt, mul-le-mul, mul-le-mul-right, lt-of-mul-lt-mul-right, le-of-mul-le-mul-right, mul-pos, div-add-mod', mod-lt, mul-comm, two-mul, eq-zero-or-pos}
 use native.Mathlib.Omega.{arith}
 use lib.Dec.{leb}
 use lib.Pow.{pow-pos, pow-add}
@@ -50,6 +50,9 @@ without-factor {n} {p} {r} h a =
     let under : r / p * p * (r / p * p) ≤ r * r = square-le (omega arith) in
     let over : (r + 1) * (r + 1) ≤ (r / p + 1) * p * ((r / p + 1) * p) = square-le (omega arith) in
     record { low = le-of-mul-le-mul-right {k = p * p} (omega arith) (mul-pos h h); high = lt-of-mul-lt-mul-right (p * p) (omega arith) }
+
+pub pow-next : (h : ℕ) → 2 ^ (h + 1) ≡ 2 * 2 ^ h
+pow-next h = pow-add 2 h 1 ∙ mul-comm (2 ^ h) 2
 
 pub pow-double : (h : ℕ) → 2 ^ (2 * h) ≡ 2 ^ h * 2 ^ h
 pow-double h = ap (λ (k : ℕ). 2 ^ k) (two-mul h) ∙ pow-add 2 h h

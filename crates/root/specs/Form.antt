@@ -8,4 +8,4 @@ pub record InForm (u v h : ℕ) : Type 0 where
   pub same : u * 2 ^ 1074 ≡ v * 2 ^ 54 * 2 ^ (2 * h)
   pub least : 2 ^ 52 ≤ v
   pub most : v + 2 ≤ 2 ^ 54
-  pub low : h ≤ 1532
+  pub within : h ≤ 1532

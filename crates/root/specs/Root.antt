@@ -8,12 +8,12 @@ use Rattle.exact.specs.Numbers.{nought, isFinite, Number, minus, steps}
 use Rattle.root.specs.Said.{Said, root, refused}
 use Rattle.root.specs.Whole.{wholeRoot}
 
--- A number x of u steps of 2^-1074 has the root of u * 2^1074 as its root, in steps. This is u * 2^1074, which lies below 4 ^ 1586.
+-- x is u steps of 2^-1074; in steps its root is the root of u * 2^1074, which lies below 4 ^ 1586
 unfoldable pub radicand : Float → ℕ
 radicand x = steps binary64 x * 2 ^ 1074
 
--- "the binary64 number nearest the exact square root": the whole part of the root, in steps, and half a step, rounded. The half takes
--- the place of the fraction that was cut off: no number midway between two binary64 numbers lies within that step.
+-- "the binary64 number nearest the exact square root": the whole part of the root, in steps, and half a step, rounded. Midway between two
+-- binary64 numbers of that size lies a whole number of steps, so the half stands on the side of it on which the root does.
 unfoldable pub nearestRoot : Float → Float
 nearestRoot x = round binary64 false (2 * wholeRoot 1586 (radicand x) + 1) (2 * 2 ^ 1074)
 
