@@ -5,18 +5,12 @@ use mathlib.Core.Bool.{Bool, true, false, _&&_, _||_, Bool·beq}
 use Prim.Native.Nat.{ℕ, _+_, _-_, _*_, _^_, _<_}
 use native.Mathlib.Nat.{mul-assoc, mul-comm, mul-right-comm, zero-mul, add-mul, mul-sub, mul-pos, mul-lt-mul-of-pos-right, lt-of-mul-lt-mul-right, eq-of-mul-eq-mul-right}
 use lib.IntN.{ℤ}
-use lib.Dec.{T, ltb, eqb, ltb→lt, lt→ltb, eqb→eq}
+use lib.Dec.{ltb, eqb, ltb→lt, lt→ltb, eqb→eq}
 use lib.Ieee.{fin, Format, low, up, down, below, level}
 use lib.Ieee.Fits.{down-pos, eq→eqb}
 use Rattle.exact.specs.Numbers.{Number, steps}
+use Rattle.exact.proofs.Basics.{same-test}
 use Rattle.exact.proofs.Steps.{in-steps}
-
--- two tests that pass together are the same test
-same-test : (a b : Bool) → (T a → T b) → (T b → T a) → a ≡ b
-same-test true true p q = refl
-same-test true false p q = absurd (p tt)
-same-test false true p q = absurd (q tt)
-same-test false false p q = refl
 
 sub-mul : (a b c : ℕ) → (a - b) * c ≡ a * c - b * c
 sub-mul a b c = mul-comm (a - b) c ∙ mul-sub c a b ∙ ap₂ (λ (x y : ℕ). x - y) (mul-comm c a) (mul-comm c b)
@@ -32,13 +26,13 @@ module _ (L D : ℕ) (l : 0 < L) (d : 0 < D) where
   scaled-ltb X Y a b p q =
       same-test (ltb X Y) (ltb a b) (λ t. lt→ltb a b (up-lt L D l d p q (ltb→lt X Y t))) (λ t. lt→ltb X Y (up-lt D L d l (sym p) (sym q) (ltb→lt a b t)))
 
-  pub scaled-eqb : (X Y a b : ℕ) → X * L ≡ a * D → Y * L ≡ b * D → eqb X Y ≡ eqb a b
+  scaled-eqb : (X Y a b : ℕ) → X * L ≡ a * D → Y * L ≡ b * D → eqb X Y ≡ eqb a b
   scaled-eqb X Y a b p q =
       same-test (eqb X Y) (eqb a b)
       (λ t. eq→eqb (eq-of-mul-eq-mul-right D d a b (sym p ∙ ap (λ (z : ℕ). z * L) (eqb→eq X Y t) ∙ q)))
       (λ t. eq→eqb (eq-of-mul-eq-mul-right L l X Y (p ∙ ap (λ (z : ℕ). z * D) (eqb→eq a b t) ∙ sym q)))
 
-  pub nought : 0 * L ≡ 0 * D
+  nought : 0 * L ≡ 0 * D
   nought = zero-mul L ∙ sym (zero-mul D)
 
   pub sums : (X Y a b : ℕ) → X * L ≡ a * D → Y * L ≡ b * D → (X + Y) * L ≡ (a + b) * D

@@ -1,3 +1,4 @@
+pub mod Basics
 pub mod Coincidence
 pub mod Steps
 pub mod Rounding

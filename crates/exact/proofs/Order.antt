@@ -1,8 +1,8 @@
 -- Comparisons of finite numbers as an order of whole numbers. A number's place is its distance in steps from -overflow, so that every
 -- comparison of the format's numbers, of either sign, is one of places, and so is the exact gap.
 use mathlib.Core.Path.{_≡_, refl, _∙_}
-use mathlib.Core.Logic.{_⊎_, inl, inr, _↔_, Iff·trans}
-use mathlib.Core.Bool.{Bool, true, false, not, cond, _&&_, _||_, Bool·beq, true≢false}
+use mathlib.Core.Logic.{inl, inr, _↔_, Iff·trans}
+use mathlib.Core.Bool.{Bool, true, false, not, cond, _&&_, Bool·beq, true≢false}
 use Prim.Native.Nat.{ℕ, _+_, _-_, _*_, _^_, _≤_, _<_}
 use native.Mathlib.Nat.{le-of-eq, le-of-lt, lt-of-le-of-lt, eq-or-lt-of-le}
 use native.Mathlib.Omega.{arith}
@@ -14,21 +14,10 @@ use lib.Ieee.Fits.{eq→eqb, and-i, and-l, and-r, round-fits}
 use lib.Ieee.Order.{round-mono}
 use lib.Ieee.Scale.{overflow}
 use Rattle.exact.specs.Numbers.{isFinite, Number, minus, steps, distance, gap}
+use Rattle.exact.proofs.Basics.{or-split, or-l, or-r, not-below}
 use Rattle.exact.proofs.Steps.{steps-lt}
 use Rattle.exact.proofs.Rounding.{rounded, round-steps, round-finite, round-minus}
 use Rattle.exact.proofs.Fractions.{scaled-below, scaled-level, left, right, denominators-pos}
-
-or-split : (a b : Bool) → T (a || b) → T a ⊎ T b
-or-split true b t = inl tt
-or-split false b t = inr t
-
-or-l : (a b : Bool) → T a → T (a || b)
-or-l true b t = tt
-or-l false b t = absurd t
-
-or-r : (a b : Bool) → T b → T (a || b)
-or-r true b t = tt
-or-r false b t = t
 
 -- ---- the comparisons, in signs and steps
 
@@ -99,19 +88,19 @@ module _ (o : ℕ) where
 -- ---- the laws, for two finite numbers
 
 module _ (f : Format) (x y : Float) (h : Number f x) (k : Number f y) where
-  X : steps f x < overflow f
-  X = steps-lt f x (h .0)
+  x-in : steps f x < overflow f
+  x-in = steps-lt f x (h .0)
 
-  Y : steps f y < overflow f
-  Y = steps-lt f y (k .0)
+  y-in : steps f y < overflow f
+  y-in = steps-lt f y (k .0)
 
   pub lt-place : T (lt x y) ↔ (place f x < place f y)
   unfolding place
-  lt-place = rw (lt-steps f x y h k) (below-along (overflow f) (minus x) (minus y) (steps f x) (steps f y) X Y)
+  lt-place = rw (lt-steps f x y h k) (below-along (overflow f) (minus x) (minus y) (steps f x) (steps f y) x-in y-in)
 
   pub eq-place : T (eq x y) ↔ (place f x ≡ place f y)
   unfolding place
-  eq-place = rw (eq-steps f x y h k) (level-along (overflow f) (minus x) (minus y) (steps f x) (steps f y) X Y)
+  eq-place = rw (eq-steps f x y h k) (level-along (overflow f) (minus x) (minus y) (steps f x) (steps f y) x-in y-in)
 
   pub le-place : T (le x y) ↔ (place f x ≤ place f y)
   unfolding le
@@ -122,7 +111,7 @@ module _ (f : Format) (x y : Float) (h : Number f x) (k : Number f y) where
 
   pub gap-place : gap f x y ≡ distance (place f x) (place f y)
   unfolding gap place
-  gap-place = gap-along (overflow f) (minus x) (minus y) (steps f x) (steps f y) X Y
+  gap-place = gap-along (overflow f) (minus x) (minus y) (steps f x) (steps f y) x-in y-in
 
 -- of two that are not minus, the steps compare
 from-the-same : (o a b : ℕ) → ((o + a ≤ o + b) ↔ (a ≤ b)) × ((o + a < o + b) ↔ (a < b))
@@ -150,10 +139,7 @@ module _ (f : Format) (x y : Float) (h : Number f x) (k : Number f y) where
 -- where the one does not lie below the other, the other is at most the one; and lies below it where the two are not equal either
 module _ (f : Format) (x y : Float) (h : Number f x) (k : Number f y) (n : T (not (lt x y))) where
   at-most : place f y ≤ place f x
-  at-most = go (λ l. T-not (lt x y) n (lt-place f x y h k .1 l))
-    where
-      go : (place f x < place f y → ⊥) → place f y ≤ place f x
-      go g = omega arith
+  at-most = not-below (λ l. T-not (lt x y) n (lt-place f x y h k .1 l))
 
   pub le-of-not-lt : T (le y x)
   le-of-not-lt = le-place f y x k h .1 at-most

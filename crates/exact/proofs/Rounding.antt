@@ -18,6 +18,7 @@ use lib.Ieee.Nearest.{closest}
 use lib.Ieee.Order.{drop, kept}
 use lib.Ieee.Scale.{grid, overflow}
 use Rattle.exact.specs.Numbers.{isFinite, Number, magnitude, minus, steps, distance}
+use Rattle.exact.proofs.Basics.{not-below}
 use Rattle.exact.proofs.Steps.{moved, steps-of-value, steps-lt, same-number}
 
 -- ---- the nearest whole number to a fraction n / u
@@ -91,14 +92,12 @@ pub in-units : (f : Format) (a c : ℕ) → (k : ℕ) × (rounded f a c ≡ k * 
 unfolding rounded unit
 in-units f a c = (kept (prec f) (a * 2 ^ low f) c, refl)
 
+-- w has d binary digits
 digits : (w d : ℕ) → 2 ^ d ≤ 2 * w → w < 2 ^ d → size w ≡ d
-digits w d lo hi = le-antisymm (size-le w d hi) (at-least (λ g. over w (2 ^ size w) (2 ^ d) (size-lt w) lo (le-trans (le-of-eq (sym (pow-succ' 2 (size w)))) (pow-mono g))))
+digits w d lo hi = le-antisymm (size-le w d hi) (not-below (λ g. over w (2 ^ size w) (2 ^ d) (size-lt w) lo (le-trans (le-of-eq (sym (pow-succ' 2 (size w)))) (pow-mono g))))
   where
     over : (a b c : ℕ) → a < b → c ≤ 2 * a → 2 * b ≤ c → ⊥
     over a b c h k l = omega arith
-
-    at-least : (size w < d → ⊥) → d ≤ size w
-    at-least n = omega arith
 
 -- a fraction whose whole part, in steps, has j digits more than the format keeps has the unit 2 ^ j
 pub unit-is : (f : Format) (a c j : ℕ) → 2 ^ (prec f + j) ≤ 2 * (a * 2 ^ low f / c) → a * 2 ^ low f / c < 2 ^ (prec f + j) → unit f a c ≡ 2 ^ j

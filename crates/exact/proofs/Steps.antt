@@ -3,8 +3,7 @@
 use mathlib.Core.Path.{_≡_, refl, sym, ap, _∙_, subst}
 use mathlib.Core.Bool.{Bool, cond, _&&_}
 use Prim.Native.Nat.{ℕ, zero, suc, _+_, _-_, _*_, _/_, _%_, _^_, _≤_, _<_}
-use native.Mathlib.Nat.{le-trans, le-of-eq, lt-of-lt-of-le, not-le-of-lt, mul-one, zero-mul, mul-assoc, mul-comm, mul-right-comm, mul-pos, mul-lt-mul-of-pos-right, lt-of-mul-lt-mul-right, mul-div-cancel, le-mul-of-pos-right}
-use native.Mathlib.Omega.{arith}
+use native.Mathlib.Nat.{sub-add-cancel, le-trans, le-of-eq, lt-of-lt-of-le, not-le-of-lt, mul-one, zero-mul, mul-assoc, mul-comm, mul-right-comm, mul-pos, mul-lt-mul-of-pos-right, lt-of-mul-lt-mul-right, mul-div-cancel, le-mul-of-pos-right}
 use lib.IntN.{ℤ, pos, negsuc}
 use lib.Dec.{T, leb, ltb, eqb, leb→le, ltb→lt, eqb→eq}
 use lib.Pow.{pow-add, pow-pos, pow-lt}
@@ -14,6 +13,7 @@ use lib.Ieee.Bits.{ofBits-toBits}
 use lib.Ieee.Exact.{HasValue}
 use lib.Ieee.Scale.{overflow}
 use Rattle.exact.specs.Numbers.{isFinite, Number, minus, steps}
+use Rattle.exact.proofs.Basics.{not-below}
 
 -- ---- what it takes to fit, as facts
 
@@ -21,14 +21,14 @@ use Rattle.exact.specs.Numbers.{isFinite, Number, minus, steps}
 abbrev Facts : Format → ℕ → ℤ → Type 0
 Facts f m e = (m < 2 ^ prec f) × (down e ≤ 2 ^ low f) × (m * up e < 2 ^ suc (emax f) * down e)
 
-one-up : (a b : ℕ) → a * b ≡ 1 → 0 < a → b ≤ 1
-one-up a b h p = le-trans (le-mul-of-pos-right b p) (le-of-eq (mul-comm b a ∙ h))
+factor-of-one : (a b : ℕ) → a * b ≡ 1 → 0 < a → b ≤ 1
+factor-of-one a b h p = le-trans (le-mul-of-pos-right b p) (le-of-eq (mul-comm b a ∙ h))
 
 facts : (f : Format) (s : Bool) (m : ℕ) (e : ℤ) → T (fits f (fin s m e)) → Facts f m e
 unfolding fits
 facts f s zero e h = (
   pow-pos (prec f),
-  le-trans (one-up (up e) (down e) (eqb→eq (up e * down e) 1 h) (up-pos e)) (pow-pos (low f)),
+  le-trans (factor-of-one (up e) (down e) (eqb→eq (up e * down e) 1 h) (up-pos e)) (pow-pos (low f)),
   subst (λ (n : ℕ). n < 2 ^ suc (emax f) * down e) (sym (zero-mul (up e))) (mul-pos (pow-pos (suc (emax f))) (down-pos e)),
 )
 facts f s (suc m) e h =
@@ -44,24 +44,18 @@ facts f s (suc m) e h =
 -- ---- a power of two that is at most another divides it
 
 exponent-le : (i j : ℕ) → 2 ^ i ≤ 2 ^ j → i ≤ j
-exponent-le i j h = le-of-not-lt (λ (l : j < i). not-le-of-lt (pow-lt l) h)
-  where
-    le-of-not-lt : (j < i → ⊥) → i ≤ j
-    le-of-not-lt n = omega arith
+exponent-le i j h = not-below (λ l. not-le-of-lt (pow-lt l) h)
 
 -- 2 ^ e is 2 ^ shift steps
 abbrev shift : Format → ℤ → ℕ
 shift f (pos k) = k + low f
 shift f (negsuc k) = low f - suc k
 
-back : (l k : ℕ) → k ≤ l → l - k + k ≡ l
-back l k h = omega arith
-
 up-shift : (f : Format) (e : ℤ) → down e ≤ 2 ^ low f → up e * 2 ^ low f ≡ 2 ^ shift f e * down e
 up-shift f (pos k) h = sym (pow-add 2 k (low f)) ∙ sym (mul-one (2 ^ (k + low f)))
 up-shift f (negsuc k) h =
     mul-comm 1 (2 ^ low f) ∙ mul-one (2 ^ low f)
-    ∙ ap (λ (n : ℕ). 2 ^ n) (sym (back (low f) (suc k) (exponent-le (suc k) (low f) h)))
+    ∙ ap (λ (n : ℕ). 2 ^ n) (sym (sub-add-cancel (exponent-le (suc k) (low f) h)))
     ∙ pow-add 2 (low f - suc k) (suc k)
 
 steps-shift : (f : Format) (s : Bool) (m : ℕ) (e : ℤ) → T (fits f (fin s m e)) → steps f (fin s m e) ≡ m * 2 ^ shift f e

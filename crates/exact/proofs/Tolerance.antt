@@ -11,6 +11,7 @@ use lib.Pow.{pow-pos}
 use lib.Ieee.{Float, nan, inf, fin, binary64, low, fits, neg, add, sub, lt, eq, le, ofBits}
 use lib.Ieee.Bits.{ofBits-fits}
 use Rattle.exact.specs.Numbers.{numberOf, tolerance, isFinite, Number, magnitude, isNear, minus, steps, distance, gap, inSteps}
+use Rattle.exact.proofs.Basics.{not-below}
 use Rattle.exact.proofs.Rounding.{rounded, nothing-nearer, rounded-le}
 use Rattle.exact.proofs.Order.{round-le}
 use Rattle.exact.proofs.Arithmetic.{sub-magnitude}
@@ -83,12 +84,9 @@ module _ (x y : Float) (h : Number binary64 x) (k : Number binary64 y) where
 
   pub gap-of-near : T (isNear x y) → gap binary64 x y ≤ inSteps 36 + inSteps 89
   unfolding L
-  gap-of-near t = le-of-not-lt (beyond (rounded binary64 (gap binary64 x y) L) (gap binary64 x y) (inSteps 36) (inSteps 89) L in-steps-pos (pow-pos (low binary64)) (near-rounded .0 t)
+  gap-of-near t = not-below (beyond (rounded binary64 (gap binary64 x y) L) (gap binary64 x y) (inSteps 36) (inSteps 89) L in-steps-pos (pow-pos (low binary64)) (near-rounded .0 t)
       (subst (λ (n : ℕ). distance (rounded binary64 (gap binary64 x y) L * L) (gap binary64 x y * L) ≤ distance (n * L) (gap binary64 x y * L)) next-steps
       (nothing-nearer binary64 (gap binary64 x y) L next (pow-pos (low binary64)) (ofBits-fits binary64 0x3db0_0000_0000_0001))))
-    where
-      le-of-not-lt : (inSteps 36 + inSteps 89 < gap binary64 x y → ⊥) → gap binary64 x y ≤ inSteps 36 + inSteps 89
-      le-of-not-lt n = omega arith
 
 -- ---- the bound is reached: 2^-36 and -2^-89 are near, and their exact gap is 2^-36 + 2^-89
 

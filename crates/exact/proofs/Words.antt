@@ -1,19 +1,21 @@
 -- The number that a word below the infinity's stands for, in steps: the digits themselves where the exponent's field is 0, and else the
 -- digits with the leading one, moved up by one less than the field.
 use mathlib.Core.Path.{_≡_, sym, ap, _∙_, subst}
-use mathlib.Core.Bool.{Bool, false, cond}
+use mathlib.Core.Bool.{Bool, false, not, cond}
 use Prim.Native.Nat.{ℕ, suc, _+_, _-_, _*_, _/_, _%_, _^_, _≤_, _<_}
 use native.Mathlib.Nat.{one-mul, pow-succ', lt-of-not-le, not-le-of-lt, le-div-iff-mul-le, add-zero, zero-add, mul-one, mul-comm, zero-mul, suc-mul, le-trans, le-of-eq, lt-of-lt-of-le, ne-of-lt, mul-le-mul-right, mul-add-div-right, div-eq-of-lt, mul-add-mod-self-right, mod-eq-of-lt}
 use native.Mathlib.Omega.{arith}
-use borrow.Author.Tests.{lt-leb, ne-eqb}
-use lib.Dec.{eqb}
+use borrow.Author.Tests.{le-ltb, lt-leb, ne-eqb}
+use lib.Dec.{T, eqb}
 use lib.Pow.{pow-pos, pow-mono}
-use lib.Ieee.{Float, inf, nan, Format, prec, emax, low, hid, ones, top, size, odd, ofFields, ofBits, toBits}
+use lib.Ieee.{Float, inf, nan, Format, prec, emax, low, hid, ones, top, size, odd, ofFields, nanBits, ofBits, toBits}
 use lib.Ieee.Digits.{size-lt, size-le, size-reaches}
 use lib.Ieee.Fits.{two, reach, kept-lt}
+use lib.Ieee.Bits.{nanBits-above}
 use lib.Ieee.Exact.{HasValue, odd-sign}
 use lib.Ieee.Scale.{overflow}
 use Rattle.exact.specs.Numbers.{Number, minus, steps}
+use Rattle.exact.proofs.Basics.{failed}
 use Rattle.exact.proofs.Steps.{word-of, toBits-steps, steps-lt}
 
 module _ (f : Format) (x t : ℕ) (X : x < ones f) (H : t < hid f) where
@@ -55,6 +57,11 @@ normal-word f x t X H =
     let is : ofBits f (suc x * hid f + t) ≡ odd (prec f) false (hid f + t) x (low f) =
     fields f (suc x) t X H ∙ ap (λ (b : Bool). cond b (cond (eqb t 0) (inf false) nan) (odd (prec f) false (hid f + t) x (low f))) (ne-eqb (suc x) (ones f) (ne-of-lt X)) in
     subst (λ (v : Float). HasValue v false ((hid f + t) * 2 ^ x) (2 ^ low f)) (sym is) (odd-sign (prec f) false (hid f + t) x (low f))
+
+-- ---- a word that is, without its sign, not above the infinity's is no NaN's
+
+pub no-nan-word : (f : Format) (w : ℕ) → w % top f ≤ ones f * hid f → T (not (nanBits f w))
+no-nan-word f w h = failed (nanBits-above f w ∙ le-ltb (ones f * hid f) (w % top f) h)
 
 -- ---- the word of a number above zero lies strictly between those of 0 and of the infinity
 

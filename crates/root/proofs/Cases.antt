@@ -1,12 +1,12 @@
 -- The definition of the root by its cases: not finite, below zero, zero, and above zero, where the number has a shape.
-use mathlib.Core.Path.{_≡_, sym, subst}
-use mathlib.Core.Bool.{Bool, true, false, not}
+use mathlib.Core.Path.{_≡_, subst}
+use mathlib.Core.Bool.{true, false}
 use Prim.Native.Nat.{_+_, _*_, _/_, _^_, _<_}
 use native.Mathlib.Omega.{arith}
-use lib.Dec.{T}
 use lib.Ieee.{Float, binary64, lt, eq, ofBits, toBits}
 use lib.Ieee.Bits.{ofBits-toBits}
 use Rattle.exact.specs.Numbers.{nought, isFinite, Number, minus, steps}
+use Rattle.exact.proofs.Basics.{failed}
 use Rattle.exact.proofs.Order.{lt-of-neither}
 use Rattle.exact.proofs.Zero.{nought-number, positive-is}
 use Rattle.exact.proofs.Words.{positive-word}
@@ -17,13 +17,6 @@ use Rattle.root.specs.Root.{nearestRoot, rootOf}
 use Rattle.root.proofs.Whole.{wholeRoot-is}
 use Rattle.root.proofs.Form.{has-form}
 use Rattle.root.proofs.Shape.{Shape, written, is-nearestRoot}
-
--- what a test found, as the fact that it tests
-pub passed : {t : Bool} → t ≡ true → T t
-passed e = subst T (sym e) tt
-
-pub failed : {t : Bool} → t ≡ false → T (not t)
-failed e = subst (λ (t : Bool). T (not t)) (sym e) tt
 
 pub refuses-not-finite : (x : Float) → isFinite x ≡ false → rootOf x ≡ refused 1
 unfolding rootOf

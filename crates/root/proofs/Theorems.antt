@@ -11,6 +11,7 @@ use lib.Dec.{T}
 use lib.Ieee.{Float, nan, inf, fin, binary64, fits, lt, eq, ofBits}
 use lib.Ieee.Bits.{is-true, is-false}
 use Rattle.exact.specs.Numbers.{nought, isFinite, minus, steps}
+use Rattle.exact.proofs.Basics.{passed, failed}
 use Rattle.exact.proofs.Coincidence.{one-result}
 use Rattle.exact.proofs.Steps.{same-number}
 use Rattle.exact.proofs.Order.{plus-lt, above-alone, equal-alone, lt-of-neither}
@@ -21,7 +22,7 @@ use Rattle.root.specs.declared.Reason.{Reason}
 use Rattle.root.specs.declared.Reason.the-variants.{NotFinite, BelowZero}
 use Rattle.root.specs.Said.{Said, root, refused, numberOf, said}
 use Rattle.root.specs.Root.{radicand, sum, nearestRoot, rootOf, Nearest, IsRoot}
-use Rattle.root.proofs.Cases.{passed, failed, refuses-not-finite, refuses-below-zero, keeps-zero, finds-root, shape}
+use Rattle.root.proofs.Cases.{refuses-not-finite, refuses-below-zero, keeps-zero, finds-root, shape}
 use Rattle.root.proofs.Nearest.{is-nearest}
 
 -- ---- the definition has the property

@@ -8,6 +8,7 @@ use lib.Dec.{T}
 use lib.Ieee.{Float, nan, inf, fin, binary64, fits, neg, add, sub, lt, eq, le, ofBits}
 use lib.Ieee.Scale.{overflow}
 use Rattle.exact.specs.Numbers.{nought, Number, magnitude, minus, steps, _⊖_}
+use Rattle.exact.proofs.Basics.{passed}
 use Rattle.exact.proofs.Steps.{same-number}
 use Rattle.exact.proofs.Order.{place, le-place}
 use Rattle.exact.proofs.Arithmetic.{neg-number}
@@ -32,7 +33,7 @@ from-zero (inf true) h t = refl
 from-zero (inf false) h t = absurd (true≢false (sym t))
 from-zero (fin true m e) h t = zero-plus (fin false m e) (neg-number binary64 (fin true m e) (h, tt) .0) refl
 from-zero (fin false m e) h t =
-    let z = zero-itself (fin false m e) (h, tt) refl (subst T (sym t) tt) in
+    let z = zero-itself (fin false m e) (h, tt) refl (passed t) in
     ap (λ (x : Float). nought ⊖ x) z ∙ sym (ap magnitude z)
 
 -- what is minus is at most 0
@@ -52,10 +53,10 @@ kept (fin true m e) h t = absurd (subst T t (minus-below (fin true m e) (h, tt) 
 kept (fin false m e) h t = refl
 
 returns : tie.Need-returns
-returns c = from-zero (c .before .args .x) (subst T (sym (c .before .good .0 .1)) tt) (c .if1 .taken)
+returns c = from-zero (c .before .args .x) (passed (c .before .good .0 .1)) (c .if1 .taken)
 
 returns-2 : tie.Need-returns-2
-returns-2 c = kept (c .before .args .x) (subst T (sym (c .before .good .0 .1)) tt) (c .if1 .left)
+returns-2 c = kept (c .before .args .x) (passed (c .before .good .0 .1)) (c .if1 .left)
 
 pub absolute-spec : {M : Type 1} → statement M
 absolute-spec = tie.close (tie.spec returns returns-2)

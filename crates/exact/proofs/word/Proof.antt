@@ -1,11 +1,12 @@
 -- `exact::word` meets its contract: only NaN differs from itself, and for it the definition's word is the one written here.
-use mathlib.Core.Path.{_≡_, refl, sym, _∙_, ap, subst}
+use mathlib.Core.Path.{_≡_, refl, sym, _∙_, ap}
 use mathlib.Core.Bool.{false, not, true≢false}
 use borrow.Author.Needs.{needs}
 use lib.Dec.{T}
 use lib.Ieee.{Float, nan, inf, fin, ne, isNan, toBits}
 use lib.Ieee.Compare.{differs-from-itself, nan-differs}
 use Rattle.exact.specs.Numbers.{wordOf}
+use Rattle.exact.proofs.Basics.{passed}
 use Rattle.exact.proofs.word.Statement.{statement}
 use Rattle.exact.proofs.word.Tie as tie
 
@@ -23,7 +24,7 @@ float-to-bits-result : tie.Need-float-to-bits-result
 float-to-bits-result c = no-nan (c .before .args .x) (c .if1 .left)
 
 returns : tie.Need-returns
-returns c = sym (ap wordOf (differs-from-itself (c .before .args .x) (subst T (sym (c .if1 .taken)) tt)) ∙ nan-word)
+returns c = sym (ap wordOf (differs-from-itself (c .before .args .x) (passed (c .if1 .taken))) ∙ nan-word)
 
 returns-2 : tie.Need-returns-2
 returns-2 c = search needs

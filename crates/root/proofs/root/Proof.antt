@@ -1,17 +1,19 @@
 -- `root::root` meets its contract: each return is one case of the definition, and above zero `root_word` gives the definition's root.
-use mathlib.Core.Path.{_≡_, sym, ap, _∙_, subst}
+use mathlib.Core.Path.{_≡_, sym, ap, _∙_}
 use mathlib.Core.Bool.{true, not}
-use Prim.Native.Nat.{_%_, _<_}
+use Prim.Native.Nat.{_<_}
 use native.Mathlib.Omega.{arith}
 use borrow.Author.Needs.{needs}
-use borrow.Author.Tests.{not-true, not-false, le-ltb}
+use borrow.Author.Tests.{not-true, not-false}
 use lib.Dec.{T}
 use lib.Ieee.{Float, nan, inf, fin, binary64, isNan, toBits}
-use lib.Ieee.Bits.{ofBits-toBits, nanBits-above}
+use lib.Ieee.Bits.{ofBits-toBits}
 use Rattle.exact.specs.Numbers.{isFinite, Number}
+use Rattle.exact.proofs.Basics.{passed}
+use Rattle.exact.proofs.Words.{no-nan-word}
 use Rattle.root.specs.Said.{root}
 use Rattle.root.specs.Root.{nearestRoot}
-use Rattle.root.proofs.Cases.{passed, failed, refuses-not-finite, refuses-below-zero, keeps-zero, finds-root, above-zero, word-between}
+use Rattle.root.proofs.Cases.{refuses-not-finite, refuses-below-zero, keeps-zero, finds-root, above-zero, word-between}
 use Rattle.root.proofs.root.Statement.{statement}
 use Rattle.root.proofs.root.Tie as tie
 
@@ -33,7 +35,7 @@ returns-3 c = sym (keeps-zero (c .before .before .before .before .args .x) (fini
 
 -- and past the last it is a number above zero
 number : (c : tie.Else3) → Number binary64 (c .before .before .before .before .args .x)
-number c = (subst T (sym (c .before .before .before .before .good .0 .1)) tt, passed (finite (c .before .before)))
+number c = (passed (c .before .before .before .before .good .0 .1), passed (finite (c .before .before)))
 
 between : (c : tie.Else3) → (0 < toBits binary64 (c .before .before .before .before .args .x)) × (toBits binary64 (c .before .before .before .before .args .x) < 0x7ff0_0000_0000_0000)
 between c = let x = c .before .before .before .before .args .x in word-between x (number c) (above-zero x (number c) (c .before .if2 .left) (c .if3 .left))
@@ -51,9 +53,7 @@ root-word-requires : tie.Need-root-word-requires
 root-word-requires c κs = between c
 
 float-from-bits-t8 : tie.Need-float-from-bits-t8
-float-from-bits-t8 c =
-    let w = c .root-word .result in
-    failed (nanBits-above binary64 w ∙ le-ltb 0x7ff0_0000_0000_0000 (w % 0x8000_0000_0000_0000) (omega (arith, c .root-word .ensures .0)))
+float-from-bits-t8 c = no-nan-word binary64 (c .root-word .result) (omega (arith, c .root-word .ensures .0))
 
 returns-4 : tie.Need-returns-4
 returns-4 c =
