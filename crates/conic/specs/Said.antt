@@ -1,0 +1,70 @@
+-- What the answers say, in document 01's numbers and values. Definitions only.
+use Prim.Native.Nat.{ℕ}
+use lib.Ieee.{Float}
+use Rattle.search.specs.declared.Bracket.{Bracket}
+use Rattle.conic.specs.declared.State.{State}
+use Rattle.conic.specs.declared.Scaled.{Scaled}
+use Rattle.conic.specs.declared.Reason.{Reason}
+use Rattle.conic.specs.declared.Reason.the-variants as why
+use Rattle.conic.specs.declared.Outcome.{Outcome}
+use Rattle.conic.specs.declared.Outcome.the-variants as outcome
+use Rattle.conic.specs.declared.unfolding.Arrival.{Arrival}
+use Rattle.conic.specs.declared.unfolding.Arrival.the-variants as arrival
+use Rattle.conic.specs.declared.entry.Number.{Number}
+use Rattle.conic.specs.declared.entry.Number.the-variants as number
+use Rattle.conic.specs.declared.entry.Unit.{Unit}
+use Rattle.conic.specs.declared.entry.Unit.the-variants as unit
+use Rattle.conic.specs.declared.entry.Scaling.{Scaling}
+use Rattle.conic.specs.declared.entry.Scaling.the-variants as scaling
+use Rattle.conic.specs.declared.entry.Start.{Start}
+use Rattle.conic.specs.declared.entry.Start.the-variants as start
+use Rattle.conic.specs.Tests.{Checked, pass, refuse}
+
+-- "Refusal numbers"
+abbrev pub numberOf : Reason → ℕ
+numberOf why.InputNotFinite = 1
+numberOf why.MuNotPositive = 2
+numberOf why.LimitOutOfRange = 3
+numberOf why.AngleTooLarge = 4
+numberOf why.NoRadius = 5
+numberOf why.NotFinite = 6
+numberOf why.StraightLine = 7
+numberOf why.BeyondFarEnd = 8
+numberOf why.BracketClosed = 9
+numberOf why.LimitReached = 10
+numberOf why.TooNearCentre = 11
+numberOf why.TowardsInfinity = 12
+numberOf why.RootRefused = 14
+
+-- "The outcome is one answer with a case for solved (x, count, state), a case for refused and a case for refused with bracket": a refusal's
+-- number and count, and with 9 and 10 the bracket's two ends
+pub data Said : Type 0 where
+  solved : Float → ℕ → State → Said
+  refused : ℕ → ℕ → Said
+  refusedWithBracket : ℕ → ℕ → Float → Float → Said
+
+abbrev pub said : Outcome → Said
+said (outcome.Solved x n state) = solved x n state
+said (outcome.Refused why n) = refused (numberOf why) n
+said (outcome.RefusedWithBracket why n lo hi) = refusedWithBracket (numberOf why) n lo hi
+
+-- the answers on the way
+abbrev pub arrived : Arrival → Checked State
+arrived (arrival.State state) = pass state
+arrived (arrival.Refused why) = refuse (numberOf why)
+
+abbrev pub passedNumber : Number → Checked Float
+passedNumber (number.Passed x) = pass x
+passedNumber (number.Refused why) = refuse (numberOf why)
+
+abbrev pub passedUnit : Unit → Checked (Float × Float)
+passedUnit (unit.Passed f1 f4) = pass (f1, f4)
+passedUnit (unit.Refused why) = refuse (numberOf why)
+
+abbrev pub passedScaled : Scaling → Checked Scaled
+passedScaled (scaling.Passed o) = pass o
+passedScaled (scaling.Refused why) = refuse (numberOf why)
+
+abbrev pub passedStart : Start → Checked (Scaled × Bracket)
+passedStart (start.Passed o b) = pass (o, b)
+passedStart (start.Refused why) = refuse (numberOf why)

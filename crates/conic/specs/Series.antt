@@ -1,0 +1,34 @@
+-- C2 and C3: document 01, "The universal functions". Definitions only.
+use Prim.Native.Nat.{ℕ, zero, suc, _+_, _*_}
+use mathlib.Core.Bool.{false}
+use mathlib.Core.List.{List, [], _∷_}
+use lib.ListN.{getD}
+use lib.Ieee.{Float, binary64, round, neg}
+use Rattle.exact.specs.Numbers.{_⊕_, _⊗_, nought}
+
+-- n!
+abbrev pub factorial : ℕ → ℕ
+factorial zero = 1
+factorial (suc n) = (n + 1) * factorial n
+
+-- "the binary64 number nearest 1/n!"
+abbrev pub nearestInverse : ℕ → Float
+nearestInverse n = round binary64 false 1 (factorial n)
+
+-- `size` coefficients, from 1/n! on by every second n
+abbrev pub inversesFrom : (size n : ℕ) → List Float
+inversesFrom zero n = []
+inversesFrom (suc size) n = nearestInverse n ∷ inversesFrom size (n + 2)
+
+-- a table of twelve: 1/(2k+2)! for C2, with first = 2, and 1/(2k+3)! for C3, with first = 3
+unfoldable pub coefficients : (first : ℕ) → List Float
+coefficients first = inversesFrom 12 first
+
+-- "repeatedly multiply by -z and add the next", for the k coefficients that are left
+unfoldable pub workedFrom : List Float → Float → (k : ℕ) → Float → Float
+workedFrom table z zero sum = sum
+workedFrom table z (suc k) sum = workedFrom table z k (sum ⊗ neg z ⊕ getD table k nought)
+
+-- "worked from k = 11 down: start with the last coefficient"
+unfoldable pub worked : List Float → Float → Float
+worked table z = workedFrom table z 11 (getD table 11 nought)

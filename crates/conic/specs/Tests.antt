@@ -1,0 +1,18 @@
+-- How a row of tests reads: in the paper's order, and the first that does not hold refuses with its number. Definitions only.
+use Prim.Native.Nat.{ℕ}
+use mathlib.Core.Bool.{Bool, true, false}
+
+-- what is left after tests, or the number of the first that did not hold
+pub data Checked (A : Type 0) : Type 0 where
+  pass : A → Checked A
+  refuse : ℕ → Checked A
+
+-- a test: where it does not hold, the refusal k
+unfoldable pub guard : {A : Type 0} → Bool → ℕ → Checked A → Checked A
+guard true k rest = rest
+guard false k rest = refuse k
+
+-- on with what an earlier row of tests came to
+unfoldable pub onward : {A B : Type 0} → Checked A → (A → Checked B) → Checked B
+onward (pass x) rest = rest x
+onward (refuse k) rest = refuse k

@@ -1,0 +1,30 @@
+-- From the functions to a state: document 01, "Unfolding", and what "The search", step 2, and Theta test there. Definitions only.
+use mathlib.Core.Bool.{_&&_}
+use lib.Ieee.{Float, le, neg}
+use Rattle.exact.specs.Numbers.{_⊕_, _⊖_, _⊗_, _⊘_, numberOf}
+use Rattle.conic.specs.declared.State.{State}
+use Rattle.conic.specs.declared.Scaled.{Scaled}
+use Rattle.conic.specs.Tests.{Checked, pass, guard}
+use Rattle.conic.specs.Vectors.{allFinite, times, combined}
+use Rattle.conic.specs.Functions.{one}
+
+-- "F = 1 - U2; G = U1 + s*U2; Ft = ((-U1)/R)/f4; Gt = 1 - U2/R. Position = r*F + (v*f4)*G, velocity = r*Ft + v*Gt"
+unfoldable pub unfolded : Scaled → (u1 u2 ratio : Float) → State
+unfolded o u1 u2 ratio =
+    let f = one ⊖ u2 in
+    let g = u1 ⊕ o .s ⊗ u2 in
+    let ft = (neg u1 ⊘ ratio) ⊘ o .f4 in
+    let gt = one ⊖ u2 ⊘ ratio in
+    record { r = combined (o .r) f (times (o .f4) (o .v)) g; v = combined (o .r) ft (o .v) gt }
+
+-- 2^-10
+abbrev pub leastRatio : Float
+leastRatio = numberOf 0x3f50_0000_0000_0000
+
+-- "R below 2^-10 or not a number, refusal 11; unfold; a component not finite, refusal 6"
+unfoldable pub arrivalOf : Scaled → (u1 u2 ratio : Float) → Checked State
+arrivalOf o u1 u2 ratio =
+    let state = unfolded o u1 u2 ratio in
+    guard (le leastRatio ratio) 11
+    (guard (allFinite (state .r) && allFinite (state .v)) 6
+    (pass state))

@@ -1,0 +1,24 @@
+-- Vectors by component: document 01, "From the state to the scaled problem". Definitions only.
+use mathlib.Core.Bool.{Bool, _&&_}
+use lib.Ieee.{Float}
+use Rattle.exact.specs.Numbers.{_⊕_, _⊗_, _⊘_, isFinite}
+use Rattle.conic.specs.declared.Vector.{Vector}
+
+-- "dot adds three products in order"
+abbrev pub dot : Vector → Vector → Float
+dot a b = a .x ⊗ b .x ⊕ a .y ⊗ b .y ⊕ a .z ⊗ b .z
+
+abbrev pub allFinite : Vector → Bool
+allFinite a = isFinite (a .x) && isFinite (a .y) && isFinite (a .z)
+
+-- a/k
+abbrev pub over : Vector → Float → Vector
+over a k = record { x = a .x ⊘ k; y = a .y ⊘ k; z = a .z ⊘ k }
+
+-- k*a; a product of two numbers is the same in either order
+abbrev pub times : Float → Vector → Vector
+times k a = record { x = k ⊗ a .x; y = k ⊗ a .y; z = k ⊗ a .z }
+
+-- a*f + b*g
+abbrev pub combined : Vector → Float → Vector → Float → Vector
+combined a f b g = record { x = a .x ⊗ f ⊕ b .x ⊗ g; y = a .y ⊗ f ⊕ b .y ⊗ g; z = a .z ⊗ f ⊕ b .z ⊗ g }

@@ -1,0 +1,94 @@
+// The conic: from a state to the scaled problem and its entry tests, the universal functions, time
+// and radius ratio, and unfolding. Document 01, "From the state to the scaled problem" to
+// "Unfolding", and refusals 1 to 8, 11 and 14.
+//
+// Every public function is proved and total: its contract is an equation with a definition of
+// `specs/`, for every input, NaN and infinities included. The crate assumes nothing.
+ghost use mathlib.Core.Path.{_≡_};
+ghost use Rattle.conic.specs.Said.{numberOf};
+
+pub mod entry;
+pub mod functions;
+pub mod series;
+pub mod unfolding;
+mod vectors;
+
+pub struct Vector {
+    pub x: f64,
+    pub y: f64,
+    pub z: f64,
+}
+
+// A position and a velocity.
+pub struct State {
+    pub r: Vector,
+    pub v: Vector,
+}
+
+// A problem for Kepler.
+pub struct Problem {
+    pub mu: f64,
+    pub r: Vector,
+    pub v: Vector,
+    pub dt: f64,
+    pub limit: u32,
+}
+
+// The scaled problem, in document 01's letters, with the state that unfolding starts from.
+pub struct Scaled {
+    pub s: f64,
+    pub alpha: f64,
+    pub p: f64,
+    pub t: f64,
+    pub f4: f64,
+    pub r0: f64,
+    pub r: Vector,
+    pub v: Vector,
+}
+
+// Why a prediction is refused.
+pub enum Reason {
+    InputNotFinite,
+    MuNotPositive,
+    LimitOutOfRange,
+    AngleTooLarge,
+    NoRadius,
+    NotFinite,
+    StraightLine,
+    BeyondFarEnd,
+    BracketClosed,
+    LimitReached,
+    TooNearCentre,
+    TowardsInfinity,
+    RootRefused,
+}
+
+impl Reason {
+    // The number that document 01 gives it.
+    pub fn number(self) -> u32
+        ensures { λ r. ⌜ r ≡ numberOf self ⌝ }
+    {
+        match self {
+            Reason::InputNotFinite => 1,
+            Reason::MuNotPositive => 2,
+            Reason::LimitOutOfRange => 3,
+            Reason::AngleTooLarge => 4,
+            Reason::NoRadius => 5,
+            Reason::NotFinite => 6,
+            Reason::StraightLine => 7,
+            Reason::BeyondFarEnd => 8,
+            Reason::BracketClosed => 9,
+            Reason::LimitReached => 10,
+            Reason::TooNearCentre => 11,
+            Reason::TowardsInfinity => 12,
+            Reason::RootRefused => 14,
+        }
+    }
+}
+
+// A prediction's answer. The bracket's ends come with reasons 9 and 10.
+pub enum Outcome {
+    Solved { x: f64, count: u32, state: State },
+    Refused(Reason, u32),
+    RefusedWithBracket(Reason, u32, f64, f64),
+}

@@ -1,0 +1,47 @@
+// From the universal functions back to a state: document 01, "Unfolding", with the tests for
+// refusals 11 and 6 that every caller makes.
+use crate::Reason;
+use crate::Scaled;
+use crate::State;
+use crate::vectors;
+ghost use mathlib.Core.Path.{_≡_};
+ghost use Rattle.conic.specs.Said.{arrived};
+ghost use Rattle.conic.specs.Unfolding.{unfolded, arrivalOf};
+
+// 2^-10: the least radius ratio.
+const LEAST_RATIO: f64 = 0.0009765625;
+
+pub enum Arrival {
+    State(State),
+    Refused(Reason),
+}
+
+// The state that u1, u2 and the radius ratio unfold to, where the ratio is allowed and every
+// component is finite.
+pub fn arrive(o: Scaled, u1: f64, u2: f64, ratio: f64) -> Arrival
+    ensures { λ r. ⌜ arrived r ≡ arrivalOf o u1 u2 ratio ⌝ }
+{
+    if !(LEAST_RATIO <= ratio) {
+        return Arrival::Refused(Reason::TooNearCentre);
+    }
+    let state = unfold(o, u1, u2, ratio);
+    if !(vectors::all_finite(state.r) & vectors::all_finite(state.v)) {
+        return Arrival::Refused(Reason::NotFinite);
+    }
+    Arrival::State(state)
+}
+
+fn unfold(o: Scaled, u1: f64, u2: f64, ratio: f64) -> State
+    ensures { λ r. ⌜ r ≡ unfolded o u1 u2 ratio ⌝ }
+{
+    let r = o.r;
+    let v = o.v;
+    let f = 1.0 - u2;
+    let g = u1 + o.s * u2;
+    let ft = ((-u1) / ratio) / o.f4;
+    let gt = 1.0 - u2 / ratio;
+    State {
+        r: vectors::sum(r, f, vectors::scaled(o.f4, v), g),
+        v: vectors::sum(r, ft, v, gt),
+    }
+}

@@ -1,0 +1,42 @@
+-- Kepler: the tests before the first guess, the search for x, and what its end comes to. Document 01, "The search". Definitions only.
+use Prim.Native.Nat.{ℕ}
+use lib.Ieee.{Float}
+use Rattle.search.specs.declared.Bracket.{Bracket}
+use Rattle.search.specs.Said as search
+use Rattle.search.specs.Search.{searchOf}
+use Rattle.conic.specs.declared.State.{State}
+use Rattle.conic.specs.declared.Scaled.{Scaled}
+use Rattle.conic.specs.declared.Problem.{Problem}
+use Rattle.conic.specs.Tests.{Checked, pass, refuse}
+use Rattle.conic.specs.Said.{Said, solved, refused, refusedWithBracket}
+use Rattle.conic.specs.Functions.{functionsAt, timeAt, ratioOf}
+use Rattle.conic.specs.Unfolding.{arrivalOf}
+use Rattle.conic.specs.Entry.{entryOf}
+
+-- a solution, where the state at x is allowed; else its refusal, 11 or 6
+abbrev pub withState : Float → ℕ → Checked State → Said
+withState x n (pass state) = solved x n state
+withState x n (refuse k) = refused k n
+
+-- 2. "R below 2^-10 or not a number, refusal 11; unfold; a component not finite, refusal 6; else solved"
+unfoldable pub arrivedAt : Scaled → Float → ℕ → Said
+arrivedAt o x n = let u = functionsAt x (o .alpha) in withState x n (arrivalOf o (u .u1) (u .u2) (ratioOf (o .s) u))
+
+-- "A refusal carries its number, the count so far, and with 9 and 10 the bracket."
+abbrev pub outcomeOf : Scaled → search.Ended → Said
+outcomeOf o (search.solved x n) = arrivedAt o x n
+outcomeOf o (search.closed b n) = refusedWithBracket 9 n (b .lo .x) (b .hi .x)
+outcomeOf o (search.spent b n) = refusedWithBracket 10 n (b .lo .x) (b .hi .x)
+outcomeOf o (search.lost n) = refused 6 n
+
+-- the search for the x whose time is t
+unfoldable pub foundIn : Scaled → (limit : ℕ) → Bracket → search.Ended
+foundIn o limit b = searchOf (timeAt o) (o .t) limit b
+
+-- a problem that passes the tests is searched; "0 before the first guess"
+abbrev pub afterEntry : (limit : ℕ) → Checked (Scaled × Bracket) → Said
+afterEntry limit (pass e) = outcomeOf (e .0) (foundIn (e .0) limit (e .1))
+afterEntry limit (refuse k) = refused k 0
+
+unfoldable pub keplerOf : Problem → Said
+keplerOf p = afterEntry (p .limit) (entryOf p)
