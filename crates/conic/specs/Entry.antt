@@ -3,7 +3,7 @@
 use Prim.Native.Nat.{ℕ}
 use mathlib.Core.Bool.{Bool, cond, not, _&&_}
 use lib.Dec.{leb}
-use lib.Ieee.{Float, lt, le, eq, neg}
+use lib.Ieee.{Float, lt, le, ne, neg}
 use Rattle.exact.specs.Numbers.{_⊖_, _⊗_, _⊘_, numberOf, nought, two, isFinite, magnitude}
 use Rattle.root.specs.Said as root
 use Rattle.root.specs.Root.{rootOf}
@@ -22,7 +22,7 @@ givenFinite mu r v last = isFinite mu && allFinite r && allFinite v && isFinite 
 
 -- not "zero or not finite"
 abbrev pub isUsable : Float → Bool
-isUsable x = isFinite x && not (eq x nought)
+isUsable x = isFinite x && ne x nought
 
 -- 14. "a root inside Kepler or Theta was refused"
 abbrev pub fromRoot : root.Said → Checked Float
@@ -52,8 +52,14 @@ unitOf mu r0 =
 abbrev pub straight : Float
 straight = numberOf 0x3eb0_0000_0000_0000
 
--- "u = r/r0 and w = f1*v by component; s = u·w; q = w·w; alpha = 2 - q; p = q - s*s; t = dt/f4". 6. "w, s, q, alpha, p, t not finite".
--- 7. "p < 2^-20 (straight line)"
+-- 6. "s, q, alpha, p, t not finite". 7. "p < 2^-20 (straight line)"
+unfoldable pub testedBy : (q : Float) → Scaled → Checked Scaled
+testedBy q o =
+    guard (isFinite (o .s) && isFinite q && isFinite (o .alpha) && isFinite (o .p) && isFinite (o .t)) 6
+    (guard (not (lt (o .p) straight)) 7
+    (pass o))
+
+-- "u = r/r0 and w = f1*v by component; s = u·w; q = w·w; alpha = 2 - q; p = q - s*s; t = dt/f4". 6. "w not finite", and the tests above
 unfoldable pub scaledBy : (r v : Vector) (dt r0 f1 f4 : Float) → Checked Scaled
 scaledBy r v dt r0 f1 f4 =
     let u = over r r0 in
@@ -63,9 +69,8 @@ scaledBy r v dt r0 f1 f4 =
     let alpha = two ⊖ q in
     let p = q ⊖ s ⊗ s in
     let t = dt ⊘ f4 in
-    guard (allFinite w && isFinite s && isFinite q && isFinite alpha && isFinite p && isFinite t) 6
-    (guard (not (lt p straight)) 7
-    (pass (record { s = s; alpha = alpha; p = p; t = t; f4 = f4; r0 = r0; r = r; v = v })))
+    guard (allFinite w) 6
+    (testedBy q (record { s = s; alpha = alpha; p = p; t = t; f4 = f4; r0 = r0; r = r; v = v }))
 
 -- the scaled problem
 unfoldable pub scaledOf : (mu : Float) (r v : Vector) (dt : Float) → Checked Scaled

@@ -3,8 +3,8 @@ use Prim.Native.Nat.{ℕ, zero, suc, _+_, _*_}
 use mathlib.Core.Bool.{false}
 use mathlib.Core.List.{List, [], _∷_}
 use lib.ListN.{getD}
-use lib.Ieee.{Float, binary64, round, neg}
-use Rattle.exact.specs.Numbers.{_⊕_, _⊗_, nought}
+use lib.Ieee.{Float, nan, binary64, round, neg}
+use Rattle.exact.specs.Numbers.{_⊕_, _⊗_}
 
 -- n!
 abbrev pub factorial : ℕ → ℕ
@@ -27,8 +27,8 @@ coefficients first = inversesFrom 12 first
 -- "repeatedly multiply by -z and add the next", for the k coefficients that are left
 unfoldable pub workedFrom : List Float → Float → (k : ℕ) → Float → Float
 workedFrom table z zero sum = sum
-workedFrom table z (suc k) sum = workedFrom table z k (sum ⊗ neg z ⊕ getD table k nought)
+workedFrom table z (suc k) sum = workedFrom table z k (sum ⊗ neg z ⊕ getD table k nan)
 
 -- "worked from k = 11 down: start with the last coefficient"
 unfoldable pub worked : List Float → Float → Float
-worked table z = workedFrom table z 11 (getD table 11 nought)
+worked table z = workedFrom table z 11 (getD table 11 nan)

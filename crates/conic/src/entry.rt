@@ -11,7 +11,7 @@ use search::Bracket;
 use search::Point;
 ghost use mathlib.Core.Path.{_≡_};
 ghost use Rattle.conic.specs.Said.{passedNumber, passedUnit, passedScaled, passedStart};
-ghost use Rattle.conic.specs.Entry.{isUsable, givenFinite, radiusOf, unitOf, scaledBy, scaledOf, farEndOf, bracketedBy, startOf, entryOf, angleEntryOf};
+ghost use Rattle.conic.specs.Entry.{isUsable, givenFinite, radiusOf, unitOf, testedBy, scaledBy, scaledOf, farEndOf, bracketedBy, startOf, entryOf, angleEntryOf};
 
 // 2^-20: a smaller p is a straight line.
 const STRAIGHT: f64 = 9.5367431640625e-07;
@@ -57,7 +57,7 @@ pub fn entry(p: Problem) -> Start
     if !(0.0 < p.mu) {
         return Start::Refused(Reason::MuNotPositive);
     }
-    if limit < 1 || 100 < limit {
+    if !((1 <= limit) & (limit <= 100)) {
         return Start::Refused(Reason::LimitOutOfRange);
     }
     match scale(p.mu, r, v, p.dt) {
@@ -152,27 +152,39 @@ fn scale_by(r: Vector, v: Vector, dt: f64, r0: f64, f1: f64, f4: f64) -> Scaling
     let alpha = 2.0 - q;
     let p = q - s * s;
     let t = dt / f4;
-    if !(vectors::all_finite(w)
-        & exact::finite(s)
-        & exact::finite(q)
-        & exact::finite(alpha)
-        & exact::finite(p)
-        & exact::finite(t)) {
+    if !vectors::all_finite(w) {
         return Scaling::Refused(Reason::NotFinite);
     }
-    if p < STRAIGHT {
+    tested(
+        q,
+        Scaled {
+            s,
+            alpha,
+            p,
+            t,
+            f4,
+            r0,
+            r,
+            v,
+        },
+    )
+}
+
+// The scaled problem where its numbers, and q, are finite and it is no straight line.
+fn tested(q: f64, o: Scaled) -> Scaling
+    ensures { λ x. ⌜ passedScaled x ≡ testedBy q o ⌝ }
+{
+    if !(exact::finite(o.s)
+        & exact::finite(q)
+        & exact::finite(o.alpha)
+        & exact::finite(o.p)
+        & exact::finite(o.t)) {
+        return Scaling::Refused(Reason::NotFinite);
+    }
+    if o.p < STRAIGHT {
         return Scaling::Refused(Reason::StraightLine);
     }
-    Scaling::Passed(Scaled {
-        s,
-        alpha,
-        p,
-        t,
-        f4,
-        r0,
-        r,
-        v,
-    })
+    Scaling::Passed(o)
 }
 
 // X.

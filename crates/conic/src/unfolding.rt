@@ -24,14 +24,14 @@ pub fn arrive(o: Scaled, u1: f64, u2: f64, ratio: f64) -> Arrival
     if !(LEAST_RATIO <= ratio) {
         return Arrival::Refused(Reason::TooNearCentre);
     }
-    let state = unfold(o, u1, u2, ratio);
+    let state = unfolded_state(o, u1, u2, ratio);
     if !(vectors::all_finite(state.r) & vectors::all_finite(state.v)) {
         return Arrival::Refused(Reason::NotFinite);
     }
     Arrival::State(state)
 }
 
-fn unfold(o: Scaled, u1: f64, u2: f64, ratio: f64) -> State
+fn unfolded_state(o: Scaled, u1: f64, u2: f64, ratio: f64) -> State
     ensures { λ r. ⌜ r ≡ unfolded o u1 u2 ratio ⌝ }
 {
     let r = o.r;

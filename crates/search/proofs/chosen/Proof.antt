@@ -1,9 +1,8 @@
 -- `search::chosen` meets its contract: each return is one case of the definition.
-use mathlib.Core.Path.{_≡_, refl, sym, ap, _∙_}
-use mathlib.Core.Bool.{true, false}
+use mathlib.Core.Path.{_≡_, refl, sym, _∙_}
+use mathlib.Core.Bool.{false}
 use borrow.Author.Needs.{needs}
-use Rattle.search.specs.Said.{guess}
-use Rattle.search.specs.Search.{inside, middleOf}
+use Rattle.search.specs.Search.{inside}
 use Rattle.search.proofs.chosen.Statement.{statement}
 use Rattle.search.proofs.chosen.Tie as tie
 

@@ -1,0 +1,51 @@
+-- `entry::scale_by` meets its contract: what the vectors ensure, put in.
+use mathlib.Core.Path.{_≡_, refl, sym, ap, _∙_}
+use borrow.Author.Needs.{needs}
+use borrow.Author.Tests.{not-true, not-false}
+use Rattle.conic.specs.Tests.{guard}
+use Rattle.conic.specs.Vectors.{allFinite, times}
+use Rattle.conic.specs.Entry.{scaledBy}
+use Rattle.conic.proofs.entry.scale_by.Statement.{statement}
+use Rattle.conic.proofs.entry.scale_by.Tie as tie
+
+divided-requires : tie.Need-divided-requires
+divided-requires c κs = search needs
+
+scaled-requires : tie.Need-scaled-requires
+scaled-requires c κs = search needs
+
+product-requires : tie.Need-product-requires
+product-requires c κs = search needs
+
+product-requires-2 : tie.Need-product-requires-2
+product-requires-2 c κs = search needs
+
+all-finite-requires : tie.Need-all-finite-requires
+all-finite-requires c κs = search needs
+
+-- w is finite as the test found it
+as-found : (c : tie.After-all-finite) → allFinite (times (c .before .before .before .before .before .args .f1) (c .before .before .before .before .before .args .v)) ≡ c .all-finite .result
+as-found c = sym (c .all-finite .ensures ∙ ap allFinite (c .before .before .before .scaled .ensures))
+
+returns : tie.Need-returns
+unfolding guard scaledBy
+returns c = rw (as-found (c .before) ∙ not-true (c .before .all-finite .result) (c .if1 .taken)) refl
+
+tested-requires : tie.Need-tested-requires
+tested-requires c κs = search needs
+
+returns-2 : tie.Need-returns-2
+unfolding guard scaledBy
+returns-2 c =
+    c .tested .ensures
+    ∙ rw (
+      c .before .before .before .before .product .ensures,
+      c .before .before .before .product2 .ensures,
+      c .before .before .before .before .before .before .divided .ensures,
+      c .before .before .before .before .before .scaled .ensures,
+      as-found (c .before .before) ∙ not-false (c .before .before .all-finite .result) (c .before .if1 .left),
+    )
+    refl
+
+pub scale-by-spec : {M : Type 1} → statement M
+scale-by-spec = tie.close (tie.spec divided-requires scaled-requires product-requires product-requires-2 all-finite-requires returns tested-requires returns-2)

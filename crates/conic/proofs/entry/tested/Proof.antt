@@ -1,0 +1,48 @@
+-- `entry::tested` meets its contract: each return is one way through the definition's row of tests.
+use mathlib.Core.Path.{_≡_, refl}
+use mathlib.Core.Bool.{Bool, _&&_}
+use borrow.Author.Needs.{needs}
+use borrow.Author.Tests.{not-true, not-false}
+use Rattle.exact.specs.Numbers.{isFinite}
+use Rattle.conic.specs.Tests.{guard}
+use Rattle.conic.specs.Entry.{testedBy}
+use Rattle.conic.proofs.entry.tested.Statement.{statement}
+use Rattle.conic.proofs.entry.tested.Tie as tie
+
+finite-requires : tie.Need-finite-requires
+finite-requires c κs = search needs
+
+finite-requires-2 : tie.Need-finite-requires-2
+finite-requires-2 c κs = search needs
+
+finite-requires-3 : tie.Need-finite-requires-3
+finite-requires-3 c κs = search needs
+
+finite-requires-4 : tie.Need-finite-requires-4
+finite-requires-4 c κs = search needs
+
+finite-requires-5 : tie.Need-finite-requires-5
+finite-requires-5 c κs = search needs
+
+-- the five tests, as they were found and as the definition has them
+found : (c : tie.After-finite5) → Bool
+found c = c .before .before .before .before .finite .result && c .before .before .before .finite2 .result && c .before .before .finite3 .result && c .before .finite4 .result && c .finite5 .result
+
+as-defined : (c : tie.After-finite5) → found c ≡ (isFinite (c .before .before .before .before .before .args .o .s) && isFinite (c .before .before .before .before .before .args .q) && isFinite (c .before .before .before .before .before .args .o .alpha) && isFinite (c .before .before .before .before .before .args .o .p) && isFinite (c .before .before .before .before .before .args .o .t))
+unfolding found
+as-defined c = rw (c .before .before .before .before .finite .ensures, c .before .before .before .finite2 .ensures, c .before .before .finite3 .ensures, c .before .finite4 .ensures, c .finite5 .ensures) refl
+
+returns : tie.Need-returns
+unfolding guard found testedBy
+returns c = rw (← as-defined (c .before), not-true (found (c .before)) (c .if1 .taken)) refl
+
+returns-2 : tie.Need-returns-2
+unfolding guard found testedBy
+returns-2 c = rw (← as-defined (c .before .before .before), not-false (found (c .before .before .before)) (c .before .before .if1 .left), c .if2 .taken) refl
+
+returns-3 : tie.Need-returns-3
+unfolding guard found testedBy
+returns-3 c = rw (← as-defined (c .before .before .before), not-false (found (c .before .before .before)) (c .before .before .if1 .left), c .if2 .left) refl
+
+pub tested-spec : {M : Type 1} → statement M
+tested-spec = tie.close (tie.spec finite-requires finite-requires-2 finite-requires-3 finite-requires-4 finite-requires-5 returns returns-2 returns-3)

@@ -1,0 +1,80 @@
+-- `entry::time_unit` meets its contract: each return is one way through the definition's row of tests.
+use mathlib.Core.Path.{_≡_, refl, sym, _∙_}
+use mathlib.Core.Bool.{true, _&&_}
+use borrow.Author.Needs.{needs}
+use borrow.Author.Tests.{not-true, not-false}
+use Rattle.exact.specs.Numbers.{_⊘_}
+use Rattle.conic.specs.Tests.{pass, guard, onward}
+use Rattle.conic.specs.Entry.{isUsable, rooted, unitOf}
+use Rattle.conic.proofs.Rows.{root-given, root-refused}
+use Rattle.conic.proofs.entry.time_unit.Statement.{statement}
+use Rattle.conic.proofs.entry.time_unit.Tie as tie
+
+usable-requires : tie.Need-usable-requires
+usable-requires c κs = search needs
+
+returns : tie.Need-returns
+unfolding guard unitOf
+returns c = rw (sym (c .before .usable .ensures) ∙ not-true (c .before .usable .result) (c .if1 .taken)) refl
+
+-- past the first test r0/mu is usable
+good : (c : tie.Else1) → isUsable (c .before .before .args .r0 ⊘ c .before .before .args .mu) ≡ true
+good c = sym (c .before .usable .ensures) ∙ not-false (c .before .usable .result) (c .if1 .left)
+
+root-requires : tie.Need-root-requires
+root-requires c κs = search needs
+
+enum-known-f1 : tie.Need-enum-known-f1
+enum-known-f1 c = search needs
+
+enum-told : tie.Need-enum-told
+enum-told c = search needs
+
+returns-2 : tie.Need-returns-2
+unfolding guard onward unitOf
+returns-2 c =
+    let quotient = c .before .before .before .before .before .args .r0 ⊘ c .before .before .before .before .before .args .mu in
+    rw (
+      good (c .before .before .before),
+      root-refused quotient (c .enum-told .given .0 .0) (c .before .before .root .result) (c .before .before .root .ensures) (c .enum-told .given .1),
+    )
+    refl
+
+usable-requires-2 : tie.Need-usable-requires-2
+usable-requires-2 c κs = search needs
+
+usable-requires-3 : tie.Need-usable-requires-3
+usable-requires-3 c κs = search needs
+
+-- past the root, f1 is what it gave
+given : (c : tie.After-usable3) → rooted (c .before .before .before .before .before .before .before .before .args .r0 ⊘ c .before .before .before .before .before .before .before .before .args .mu) ≡ pass (c .before .before .before .f1 .given .0 .0)
+given c =
+    let quotient = c .before .before .before .before .before .before .before .before .args .r0 ⊘ c .before .before .before .before .before .before .before .before .args .mu in
+    root-given quotient (c .before .before .before .f1 .given .0 .0) (c .before .before .before .before .before .root .result) (c .before .before .before .before .before .root .ensures) (c .before .before .before .f1 .given .1)
+
+returns-3 : tie.Need-returns-3
+unfolding guard onward unitOf
+returns-3 c =
+    rw (
+      good (c .before .before .before .before .before .before .before),
+      given (c .before),
+      ← c .before .before .usable2 .ensures,
+      ← c .before .usable3 .ensures,
+      not-true (c .before .before .usable2 .result && c .before .usable3 .result) (c .if2 .taken),
+    )
+    refl
+
+returns-4 : tie.Need-returns-4
+unfolding guard onward unitOf
+returns-4 c =
+    rw (
+      good (c .before .before .before .before .before .before .before),
+      given (c .before),
+      ← c .before .before .usable2 .ensures,
+      ← c .before .usable3 .ensures,
+      not-false (c .before .before .usable2 .result && c .before .usable3 .result) (c .if2 .left),
+    )
+    refl
+
+pub time-unit-spec : {M : Type 1} → statement M
+time-unit-spec = tie.close (tie.spec usable-requires returns root-requires enum-known-f1 enum-told returns-2 usable-requires-2 usable-requires-3 returns-3 returns-4)

@@ -1,0 +1,50 @@
+-- `unfolding::arrive` meets its contract: each return is one way through the definition's row of tests.
+use mathlib.Core.Path.{refl}
+use mathlib.Core.Bool.{_&&_}
+use lib.Ieee.{le}
+use borrow.Author.Needs.{needs}
+use borrow.Author.Tests.{not-true, not-false}
+use Rattle.conic.specs.Tests.{guard}
+use Rattle.conic.specs.Unfolding.{leastRatio, arrivalOf}
+use Rattle.conic.proofs.unfolding.arrive.Statement.{statement}
+use Rattle.conic.proofs.unfolding.arrive.Tie as tie
+
+returns : tie.Need-returns
+unfolding guard arrivalOf
+returns c = rw (not-true (le leastRatio (c .before .args .ratio)) (c .if1 .taken)) refl
+
+unfolded-state-requires : tie.Need-unfolded-state-requires
+unfolded-state-requires c κs = search needs
+
+all-finite-requires : tie.Need-all-finite-requires
+all-finite-requires c κs = search needs
+
+all-finite-requires-2 : tie.Need-all-finite-requires-2
+all-finite-requires-2 c κs = search needs
+
+returns-2 : tie.Need-returns-2
+unfolding guard arrivalOf
+returns-2 c =
+    rw (
+      not-false (le leastRatio (c .before .before .before .before .before .args .ratio)) (c .before .before .before .before .if1 .left),
+      ← c .before .before .before .unfolded-state .ensures,
+      ← c .before .before .all-finite .ensures,
+      ← c .before .all-finite2 .ensures,
+      not-true (c .before .before .all-finite .result && c .before .all-finite2 .result) (c .if2 .taken),
+    )
+    refl
+
+returns-3 : tie.Need-returns-3
+unfolding guard arrivalOf
+returns-3 c =
+    rw (
+      not-false (le leastRatio (c .before .before .before .before .before .args .ratio)) (c .before .before .before .before .if1 .left),
+      ← c .before .before .before .unfolded-state .ensures,
+      ← c .before .before .all-finite .ensures,
+      ← c .before .all-finite2 .ensures,
+      not-false (c .before .before .all-finite .result && c .before .all-finite2 .result) (c .if2 .left),
+    )
+    refl
+
+pub arrive-spec : {M : Type 1} → statement M
+arrive-spec = tie.close (tie.spec returns unfolded-state-requires all-finite-requires all-finite-requires-2 returns-2 returns-3)
