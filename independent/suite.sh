@@ -3,9 +3,13 @@
 # shellcheck shell=bash disable=SC2034
 
 # A suite: the program's name here and in the independent program, the bytes of one of its inputs,
-# and the fewest inputs that the gate takes.
+# the fewest inputs that the gate takes, and the fewest answers of each kind among them.
 suites=(
-    "roots 8 20000"
+    "roots 8 20000 refused 1: 1000, refused 13: 1000, root: 20000"
+    "predict 68 20000 refused 1: 20, refused 2: 20, refused 3: 20, refused 5: 20, refused 6: 20, \
+refused 7: 20, refused 8: 20, refused 9: 20, refused 10: 20, refused 11: 20, solved: 10000"
+    "turn 64 10000 refused 1: 20, refused 2: 20, refused 4: 20, refused 5: 20, refused 6: 20, \
+refused 7: 20, refused 11: 20, refused 12: 20, solved: 5000"
 )
 
 # A program reads no more inputs than this in one run.
@@ -48,8 +52,27 @@ compare() { # NAME WIDTH INPUTS KINDS
     awk '{ print $1 == "refused" ? $1 " " $2 : $1 }' "$ours" | sort | uniq -c >>"$kinds"
 }
 
-# Prints on one line what compare has added to KINDS.
-show_kinds() { # KINDS
+# Prints what compare has added to KINDS, a line for each kind: 'refused 9: 78'.
+sum_kinds() { # KINDS
     awk '{ n = $1; sub(/^ *[0-9]+ /, ""); sum[$0] += n } END { for (kind in sum) printf "%s: %.0f\n", kind, sum[kind] }' "$1" |
-        sort | paste -s -d ',' | sed 's/,/, /g'
+        sort -k 1,1 -k 2,2n
+}
+
+show_kinds() { # KINDS
+    sum_kinds "$1" | paste -s -d ',' | sed 's/,/, /g'
+}
+
+# Says which kinds were reached less often than a suite's list, WANTED, asks; status 1 if any was.
+scarce_kinds() { # KINDS WANTED
+    sum_kinds "$1" | awk -F ': ' -v wanted="$2" '
+        { reached[$1] = $2 }
+        END {
+            count = split(wanted, kinds, ", ")
+            for (i = 1; i <= count; i++) {
+                split(kinds[i], kind, ": ")
+                if (reached[kind[1]] + 0 < kind[2] + 0)
+                    printf "%s%s: %d, not %s", said++ ? ", " : "", kind[1], reached[kind[1]], kind[2]
+            }
+            exit said > 0
+        }'
 }

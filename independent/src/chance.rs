@@ -19,10 +19,41 @@ impl Chance {
         self.word() % bound
     }
 
+    /// One of the things given.
+    pub fn one_of<T: Copy>(&mut self, things: &[T]) -> T {
+        things[self.below(things.len() as u64) as usize]
+    }
+
+    /// 1 or -1.
+    pub fn sign(&mut self) -> f64 {
+        self.one_of(&[1.0, -1.0])
+    }
+
+    /// A number from `lo` on and below `hi`, up to rounding.
+    pub fn between(&mut self, lo: f64, hi: f64) -> f64 {
+        lo + (hi - lo) * ((self.word() >> 11) as f64 / (1u64 << 53) as f64)
+    }
+
+    /// A positive number from 2^lo on and below 2^(hi + 1), each exponent as likely as another.
+    /// Among the subnormal ones it loses digits.
+    pub fn scale(&mut self, lo: i32, hi: i32) -> f64 {
+        let exponent = lo + self.below((hi - lo + 1) as u64) as i32;
+        power_of_two(exponent) * self.between(1.0, 2.0)
+    }
+
     /// A number of at most `most` bits, each length about as likely as another. `most` is 1 to 63.
     pub fn short(&mut self, most: u32) -> u64 {
         let bits = 1 + self.below(most as u64);
         self.word() >> (64 - bits)
+    }
+}
+
+/// 2^exponent, for -1074 to 1023.
+pub fn power_of_two(exponent: i32) -> f64 {
+    if exponent < -1022 {
+        f64::from_bits(1 << (exponent + 1074))
+    } else {
+        f64::from_bits(((exponent + 1023) as u64) << 52)
     }
 }
 

@@ -1,19 +1,60 @@
 //! A second opinion on document 01, written from that document alone. What the proved programs
 //! print is compared with what this program prints for the same inputs.
 
+mod answer;
 mod chance;
+mod conic;
+mod edges;
+mod kepler;
+mod kepler_edges;
+mod kepler_inputs;
+mod motion;
 mod reading;
 mod root;
 mod root_inputs;
+mod suite;
+mod theta;
+mod theta_inputs;
+mod universal;
 
-use chance::Chance;
+use conic::Words;
 use std::io::{self, BufWriter, Write};
 use std::process::ExitCode;
+use suite::Suite;
 
 const USAGE: &str = "\
-usage: independent roots inputs                    the gate's inputs, as little-endian words
-       independent roots answers                   reads words, writes one line for each
-       independent roots random SEED COUNT [FROM]  COUNT words made from SEED, from place FROM on";
+usage: independent NAME inputs                    the gate's inputs, in little-endian bytes
+       independent NAME answers                   reads inputs, writes one line for each
+       independent NAME random SEED COUNT [FROM]  COUNT inputs made from SEED, from place FROM on
+NAME is a proved program's: roots, predict or turn";
+
+const ROOTS: Suite<u64, 8> = Suite {
+    fixed: root_inputs::fixed,
+    mixed: root_inputs::mixed,
+    bytes: |word| word.to_le_bytes(),
+    line: |bytes| root::root(u64::from_le_bytes(bytes)).to_string(),
+};
+
+const PREDICT: Suite<kepler::Input, 68> = Suite {
+    fixed: kepler_inputs::fixed,
+    mixed: kepler_inputs::mixed,
+    bytes: |input| joined(&words_to_bytes(&input.words), &input.limit.to_le_bytes()),
+    line: |bytes| {
+        let (words, limit) = bytes.split_at(64);
+        let input = kepler::Input {
+            words: words_from_bytes(words),
+            limit: u32::from_le_bytes(piece(limit)),
+        };
+        kepler::answer(&input).to_string()
+    },
+};
+
+const TURN: Suite<Words, 64> = Suite {
+    fixed: theta_inputs::fixed,
+    mixed: theta_inputs::mixed,
+    bytes: words_to_bytes,
+    line: |bytes| theta::answer(&words_from_bytes(&bytes)).to_string(),
+};
 
 fn main() -> ExitCode {
     let given: Vec<String> = std::env::args_os()
@@ -23,42 +64,37 @@ fn main() -> ExitCode {
     let given: Vec<&str> = given.iter().map(String::as_str).collect();
     let mut out = BufWriter::new(io::stdout().lock());
     let done = match given[..] {
-        ["roots", "inputs"] => write_words(&mut out, root_inputs::fixed().into_iter()),
-        ["roots", "answers"] => reading::answer_each(&mut out, |bytes| {
-            root::root(u64::from_le_bytes(bytes)).to_string()
-        }),
-        ["roots", "random", seed, count] => random_roots(&mut out, seed, count, "0"),
-        ["roots", "random", seed, count, from] => random_roots(&mut out, seed, count, from),
-        _ => Err(bad_usage()),
+        ["roots", ref command @ ..] => ROOTS.run(&mut out, command),
+        ["predict", ref command @ ..] => PREDICT.run(&mut out, command),
+        ["turn", ref command @ ..] => TURN.run(&mut out, command),
+        _ => None,
+    };
+    let Some(done) = done else {
+        eprintln!("{USAGE}");
+        return ExitCode::from(2);
     };
     match done.and_then(|()| out.flush()) {
         Ok(()) => ExitCode::SUCCESS,
         Err(error) => {
             eprintln!("{error}");
-            ExitCode::from(if error.kind() == io::ErrorKind::InvalidInput {
-                2
-            } else {
-                1
-            })
+            ExitCode::FAILURE
         }
     }
 }
 
-fn bad_usage() -> io::Error {
-    io::Error::new(io::ErrorKind::InvalidInput, USAGE)
+fn words_to_bytes(words: &Words) -> [u8; 64] {
+    joined(&words.map(u64::to_le_bytes).concat(), &[])
 }
 
-/// A word depends on the seed and its own place alone, so that a long run can be cut into pieces
-/// and one word of it made again.
-fn random_roots(out: &mut impl Write, seed: &str, count: &str, from: &str) -> io::Result<()> {
-    let number = |text: &str| text.parse::<u64>().map_err(|_| bad_usage());
-    let (seed, count, from) = (number(seed)?, number(count)?, number(from)?);
-    write_words(
-        out,
-        (0..count).map(|place| root_inputs::mixed(&mut Chance::at(seed, from.wrapping_add(place)))),
-    )
+fn words_from_bytes(bytes: &[u8]) -> Words {
+    std::array::from_fn(|i| u64::from_le_bytes(piece(&bytes[8 * i..8 * i + 8])))
 }
 
-fn write_words(out: &mut impl Write, mut words: impl Iterator<Item = u64>) -> io::Result<()> {
-    words.try_for_each(|word| out.write_all(&word.to_le_bytes()))
+fn joined<const N: usize>(front: &[u8], back: &[u8]) -> [u8; N] {
+    piece(&[front, back].concat())
+}
+
+/// A slice that is known to have N bytes.
+fn piece<const N: usize>(bytes: &[u8]) -> [u8; N] {
+    bytes.try_into().expect("a slice of N bytes")
 }

@@ -1,0 +1,56 @@
+//! Document 01, "Refusal numbers": one answer with three cases, and the line that each is printed as.
+
+use std::fmt;
+
+pub enum Answer {
+    Solved {
+        count: u32,
+        x: f64,
+        state: [f64; 6],
+    },
+    Refused {
+        number: u32,
+        count: u32,
+    },
+    RefusedWithBracket {
+        number: u32,
+        count: u32,
+        bracket: [f64; 2],
+    },
+}
+
+impl fmt::Display for Answer {
+    fn fmt(&self, f: &mut fmt::Formatter) -> fmt::Result {
+        match self {
+            Answer::Solved { count, x, state } => {
+                write!(f, "solved {count}")?;
+                write_words(f, &[*x])?;
+                write_words(f, state)
+            }
+            Answer::Refused { number, count } => write!(f, "refused {number} {count}"),
+            Answer::RefusedWithBracket {
+                number,
+                count,
+                bracket,
+            } => {
+                write!(f, "refused {number} {count}")?;
+                write_words(f, bracket)
+            }
+        }
+    }
+}
+
+fn write_words(f: &mut fmt::Formatter, numbers: &[f64]) -> fmt::Result {
+    numbers
+        .iter()
+        .try_for_each(|number| write!(f, " {:016x}", number.to_bits()))
+}
+
+/// Turns a test of document 01 into a refusal with its number.
+pub fn refuse(number: u32, when: bool) -> Result<(), u32> {
+    if when {
+        Err(number)
+    } else {
+        Ok(())
+    }
+}

@@ -1,0 +1,43 @@
+//! A suite: what the independent program does for one of the proved programs.
+
+use crate::chance::Chance;
+use crate::reading::answer_each;
+use std::io::{self, Write};
+
+/// Inputs of type I, sent as N bytes each.
+pub struct Suite<I, const N: usize> {
+    /// The gate's inputs.
+    pub fixed: fn() -> Vec<I>,
+    /// One input made by chance.
+    pub mixed: fn(&mut Chance) -> I,
+    pub bytes: fn(&I) -> [u8; N],
+    /// The line that answers one input.
+    pub line: fn([u8; N]) -> String,
+}
+
+impl<I, const N: usize> Suite<I, N> {
+    /// Does one command. None where there is no such command.
+    pub fn run(&self, out: &mut impl Write, command: &[&str]) -> Option<io::Result<()>> {
+        match *command {
+            ["inputs"] => Some(self.write(out, (self.fixed)().into_iter())),
+            ["answers"] => Some(answer_each(out, self.line)),
+            ["random", seed, count] => self.random(out, [seed, count, "0"]),
+            ["random", seed, count, from] => self.random(out, [seed, count, from]),
+            _ => None,
+        }
+    }
+
+    /// An input depends on the seed and its own place alone, so that a long run can be cut into
+    /// pieces and one input of it made again.
+    fn random(&self, out: &mut impl Write, words: [&str; 3]) -> Option<io::Result<()>> {
+        let [Ok(seed), Ok(count), Ok(from)] = words.map(str::parse::<u64>) else {
+            return None;
+        };
+        let made = |place| (self.mixed)(&mut Chance::at(seed, from.wrapping_add(place)));
+        Some(self.write(out, (0..count).map(made)))
+    }
+
+    fn write(&self, out: &mut impl Write, mut inputs: impl Iterator<Item = I>) -> io::Result<()> {
+        inputs.try_for_each(|input| out.write_all(&(self.bytes)(&input)))
+    }
+}
