@@ -48,6 +48,11 @@ said (outcome.Solved x n state) = solved x n state
 said (outcome.Refused why n) = refused (numberOf why) n
 said (outcome.RefusedWithBracket why n lo hi) = refusedWithBracket (numberOf why) n lo hi
 
+-- a solution, where the state at x is allowed; else its refusal
+abbrev pub withState : Float → ℕ → Checked State → Said
+withState x n (pass state) = solved x n state
+withState x n (refuse k) = refused k n
+
 -- the answers on the way
 abbrev pub arrived : Arrival → Checked State
 arrived (arrival.State state) = pass state

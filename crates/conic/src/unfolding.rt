@@ -1,11 +1,12 @@
 // From the universal functions back to a state: document 01, "Unfolding", with the tests for
 // refusals 11 and 6 that every caller makes.
+use crate::Outcome;
 use crate::Reason;
 use crate::Scaled;
 use crate::State;
 use crate::vectors;
 ghost use mathlib.Core.Path.{_≡_};
-ghost use Rattle.conic.specs.Said.{arrived};
+ghost use Rattle.conic.specs.Said.{said, arrived, withState};
 ghost use Rattle.conic.specs.Unfolding.{unfolded, arrivalOf};
 
 // 2^-10: the least radius ratio.
@@ -29,6 +30,16 @@ pub fn arrive(o: Scaled, u1: f64, u2: f64, ratio: f64) -> Arrival
         return Arrival::Refused(Reason::NotFinite);
     }
     Arrival::State(state)
+}
+
+// A prediction's answer: the state with its x and count, or the refusal with the count.
+pub fn outcome_of(arrival: Arrival, x: f64, count: u32) -> Outcome
+    ensures { λ r. ⌜ said r ≡ withState x count (arrived arrival) ⌝ }
+{
+    match arrival {
+        Arrival::State(state) => Outcome::Solved { x, count, state },
+        Arrival::Refused(why) => Outcome::Refused(why, count),
+    }
 }
 
 fn unfolded_state(o: Scaled, u1: f64, u2: f64, ratio: f64) -> State

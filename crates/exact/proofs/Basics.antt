@@ -1,10 +1,12 @@
 -- Small facts that many proofs need: what a Bool test says, and an order from the absence of the other one.
 use mathlib.Core.Path.{_≡_, refl, sym, subst}
-use mathlib.Core.Logic.{_⊎_, inl, inr}
-use mathlib.Core.Bool.{Bool, true, false, not, _||_}
+use mathlib.Core.Logic.{_⊎_, inl, inr, _↔_}
+use mathlib.Core.Bool.{Bool, true, false, not, _&&_, _||_}
 use Prim.Native.Nat.{ℕ, _≤_, _<_}
 use native.Mathlib.Nat.{le-of-suc-le-suc, lt-of-not-le}
 use lib.Dec.{T}
+use lib.Ieee.Bits.{is-true}
+use lib.Ieee.Fits.{and-i, and-l, and-r}
 
 -- what a test found, as the fact that it tests
 pub passed : {t : Bool} → t ≡ true → T t
@@ -31,6 +33,10 @@ or-l false b t = absurd t
 pub or-r : (a b : Bool) → T b → T (a || b)
 or-r true b t = tt
 or-r false b t = t
+
+-- a test and another one
+pub both : (a b : Bool) → (a && b ≡ true) ↔ (T a × T b)
+both a b = ((λ e. (and-l a b (passed e), and-r a b (passed e))), λ p. is-true (a && b) (and-i a b (p .0) (p .1)))
 
 -- what is not below is at least
 pub not-below : {a b : ℕ} → (a < b → ⊥) → b ≤ a

@@ -4,6 +4,7 @@ pub mod Steps
 pub mod Rounding
 pub mod Fractions
 pub mod Order
+pub mod Compare
 pub mod Arithmetic
 pub mod Signs
 pub mod Zero

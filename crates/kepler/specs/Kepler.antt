@@ -4,19 +4,13 @@ use lib.Ieee.{Float}
 use Rattle.search.specs.declared.Bracket.{Bracket}
 use Rattle.search.specs.Said as search
 use Rattle.search.specs.Search.{searchOf}
-use Rattle.conic.specs.declared.State.{State}
 use Rattle.conic.specs.declared.Scaled.{Scaled}
 use Rattle.conic.specs.declared.Problem.{Problem}
 use Rattle.conic.specs.Tests.{Checked, pass, refuse}
-use Rattle.conic.specs.Said.{Said, solved, refused, refusedWithBracket}
+use Rattle.conic.specs.Said.{Said, refused, refusedWithBracket, withState}
 use Rattle.conic.specs.Functions.{functionsAt, timeAt, ratioOf}
 use Rattle.conic.specs.Unfolding.{arrivalOf}
 use Rattle.conic.specs.Entry.{entryOf}
-
--- a solution, where the state at x is allowed; else its refusal, 11 or 6
-abbrev pub withState : Float → ℕ → Checked State → Said
-withState x n (pass state) = solved x n state
-withState x n (refuse k) = refused k n
 
 -- 2. "R below 2^-10 or not a number, refusal 11; unfold; a component not finite, refusal 6; else solved"
 unfoldable pub arrivedAt : Scaled → Float → ℕ → Said

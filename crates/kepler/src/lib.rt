@@ -8,7 +8,6 @@ use conic::Problem;
 use conic::Reason;
 use conic::Scaled;
 use conic::entry::Start;
-use conic::unfolding::Arrival;
 use search::Bracket;
 use search::Found;
 use search::Point;
@@ -85,8 +84,6 @@ fn arrived(o: Scaled, x: f64, count: u32) -> Outcome
     ensures { λ r. ⌜ said r ≡ arrivedAt o x count ⌝ }
 {
     let u = conic::functions::universal(x, o.alpha);
-    match conic::unfolding::arrive(o, u.u1, u.u2, conic::functions::ratio(o.s, u)) {
-        Arrival::State(state) => Outcome::Solved { x, count, state },
-        Arrival::Refused(why) => Outcome::Refused(why, count),
-    }
+    let arrival = conic::unfolding::arrive(o, u.u1, u.u2, conic::functions::ratio(o.s, u));
+    conic::unfolding::outcome_of(arrival, x, count)
 }

@@ -1,0 +1,4 @@
+pub mod Hunt
+pub mod Turns
+pub mod Count
+pub mod Laws

@@ -55,11 +55,12 @@ guessed time t n b x onward =
     (cond (isNear (time x) t) (solved x n) (onward (narrowedBy b g t) (nextGuess b g t)))
     (lost n)
 
--- the guess x after n guesses, with `left` more allowed after it: 4. "Count equal to limit: refusal 10", then 5. the next guess or refusal 9
+-- 5. on with the next guess, `again`; "failing that, refusal 9"
 abbrev pub goOn : (Bracket → Float → Ended) → ℕ → Bracket → Try → Ended
 goOn again n new none = closed new n
 goOn again n new (guess x) = again new x
 
+-- the guess x after n guesses, with `left` more allowed after it: 4. "Count equal to limit: refusal 10", then 5.
 unfoldable pub hunt : (time : Float → Float) (t : Float) (left : ℕ) (n : ℕ) → Bracket → Float → Ended
 hunt time t zero n b x = guessed time t (n + 1) b x (λ new next. spent new (n + 1))
 hunt time t (suc left) n b x = guessed time t (n + 1) b x (goOn (hunt time t left (n + 1)) (n + 1))

@@ -1,12 +1,11 @@
 -- Through an angle: document 01, "Theta". Definitions only.
-use Prim.Native.Nat.{ℕ}
 use lib.Ieee.{Float, le}
 use Rattle.exact.specs.Numbers.{_⊕_, _⊖_, _⊗_, _⊘_, numberOf, two}
 use Rattle.conic.specs.declared.State.{State}
 use Rattle.conic.specs.declared.Vector.{Vector}
 use Rattle.conic.specs.declared.Scaled.{Scaled}
-use Rattle.conic.specs.Tests.{Checked, pass, refuse, guard, onward}
-use Rattle.conic.specs.Said.{Said, solved, refused}
+use Rattle.conic.specs.Tests.{Checked, guard, onward}
+use Rattle.conic.specs.Said.{Said, withState}
 use Rattle.conic.specs.Functions.{one, functionsAt}
 use Rattle.conic.specs.Unfolding.{arrivalOf}
 use Rattle.conic.specs.Entry.{rooted, angleEntryOf}
@@ -38,9 +37,5 @@ turnedState o a =
     onward (rooted (o .p)) (λ k. reachedState o k (half .u1) (half .u0))
 
 -- "For a solved Theta, x holds the angle a and count is 0."
-abbrev pub withAngle : (a : Float) → Checked State → Said
-withAngle a (pass state) = solved a 0 state
-withAngle a (refuse k) = refused k 0
-
 unfoldable pub thetaOf : (mu : Float) (r v : Vector) (a : Float) → Said
-thetaOf mu r v a = withAngle a (onward (angleEntryOf mu r v a) (λ o. turnedState o a))
+thetaOf mu r v a = withState a 0 (onward (angleEntryOf mu r v a) (λ o. turnedState o a))

@@ -10,8 +10,8 @@ use conic::entry::Scaling;
 use conic::unfolding::Arrival;
 use root::Answer;
 ghost use mathlib.Core.Path.{_≡_};
-ghost use Rattle.conic.specs.Said.{said};
-ghost use Rattle.theta.specs.Theta.{withAngle, turnedState, reachedState, thetaOf};
+ghost use Rattle.conic.specs.Said.{said, arrived};
+ghost use Rattle.theta.specs.Theta.{turnedState, reachedState, thetaOf};
 
 // 2^-10: the least den.
 const LEAST_DEN: f64 = 0.0009765625;
@@ -21,40 +21,33 @@ pub fn theta(mu: f64, r: Vector, v: Vector, a: f64) -> Outcome
     ensures { λ x. ⌜ said x ≡ thetaOf mu r v a ⌝ }
 {
     match conic::entry::angle_entry(mu, r, v, a) {
-        Scaling::Passed(o) => turned(o, a),
+        Scaling::Passed(o) => conic::unfolding::outcome_of(turned(o, a), a, 0),
         Scaling::Refused(why) => Outcome::Refused(why, 0),
     }
 }
 
 // Half-angle relations: sh and ch are the sine and cosine of half the angle.
-fn turned(o: Scaled, a: f64) -> Outcome
-    ensures { λ x. ⌜ said x ≡ withAngle a (turnedState o a) ⌝ }
+fn turned(o: Scaled, a: f64) -> Arrival
+    ensures { λ x. ⌜ arrived x ≡ turnedState o a ⌝ }
 {
     let half = conic::functions::universal(a / 2.0, 1.0);
     match root::root(o.p) {
-        Answer::Root(k) => reached(o, a, k, half.u1, half.u0),
-        Answer::Refused(_) => Outcome::Refused(Reason::RootRefused, 0),
+        Answer::Root(k) => reached(o, k, half.u1, half.u0),
+        Answer::Refused(_) => Arrival::Refused(Reason::RootRefused),
     }
 }
 
-fn reached(o: Scaled, a: f64, k: f64, sh: f64, ch: f64) -> Outcome
-    ensures { λ x. ⌜ said x ≡ withAngle a (reachedState o k sh ch) ⌝ }
+fn reached(o: Scaled, k: f64, sh: f64, ch: f64) -> Arrival
+    ensures { λ x. ⌜ arrived x ≡ reachedState o k sh ch ⌝ }
 {
     let s = o.s;
     let p = o.p;
     let den = 1.0 + (p - 1.0) * (1.0 - 2.0 * sh * sh) - s * k * (2.0 * sh * ch);
     if !(LEAST_DEN <= den) {
-        return Outcome::Refused(Reason::TowardsInfinity, 0);
+        return Arrival::Refused(Reason::TowardsInfinity);
     }
     let ratio = p / den;
     let u2 = 2.0 * (ratio / p) * sh * sh;
     let u1 = 2.0 * ratio * sh * (ch - s * sh / k) / k;
-    match conic::unfolding::arrive(o, u1, u2, ratio) {
-        Arrival::State(state) => Outcome::Solved {
-            x: a,
-            count: 0,
-            state,
-        },
-        Arrival::Refused(why) => Outcome::Refused(why, 0),
-    }
+    conic::unfolding::arrive(o, u1, u2, ratio)
 }

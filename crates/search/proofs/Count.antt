@@ -1,0 +1,42 @@
+-- A search makes at least one guess and at most `limit`: a hunt after n guesses, with `left` more allowed, makes its own and at most those.
+use Prim.Native.Nat.{ℕ, zero, suc, _+_, _-_, _≤_}
+use native.Mathlib.Omega.{arith}
+use lib.Ieee.{Float}
+use Rattle.search.specs.declared.Bracket.{Bracket}
+use Rattle.search.specs.Said.{Try, guess, none, Ended, solved, closed, spent, lost}
+use Rattle.search.specs.Search.{firstGuess, narrowedBy, nextGuess, goOn, hunt, searchOf}
+use Rattle.search.proofs.Hunt.{pointAt, guessed-by}
+
+abbrev pub countOf : Ended → ℕ
+countOf (solved x n) = n
+countOf (closed b n) = n
+countOf (spent b n) = n
+countOf (lost n) = n
+
+abbrev Counted : (left n : ℕ) → Ended → Type 0
+Counted left n e = (n + 1 ≤ countOf e) × (countOf e ≤ n + 1 + left)
+
+-- an end at this guess
+at-once : (left n : ℕ) → (n + 1 ≤ n + 1) × (n + 1 ≤ n + 1 + left)
+at-once left n = omega arith
+
+goOn-counted : (left n : ℕ) (again : Bracket → Float → Ended) → ((b : Bracket) (x : Float) → Counted left (n + 1) (again b x))
+    → (b : Bracket) (y : Try) → Counted (suc left) n (goOn again (n + 1) b y)
+goOn-counted left n again h b none = at-once (suc left) n
+goOn-counted left n again h b (guess x) = let c = h b x in omega arith
+
+module _ (time : Float → Float) (t : Float) where
+  hunt-counted : (left n : ℕ) (b : Bracket) (x : Float) → Counted left n (hunt time t left n b x)
+  unfolding hunt
+  hunt-counted zero n b x =
+      guessed-by time t (n + 1) b x (λ new y. spent new (n + 1)) (Counted 0 n) (λ f e. at-once 0 n) (λ f. at-once 0 n) (λ f. at-once 0 n)
+  hunt-counted (suc left) n b x =
+      let g = pointAt time x in
+      let again = hunt time t left (n + 1) in
+      guessed-by time t (n + 1) b x (goOn again (n + 1)) (Counted (suc left) n) (λ f e. at-once (suc left) n)
+      (λ f. goOn-counted left n again (hunt-counted left (n + 1)) (narrowedBy b g t) (nextGuess b g t))
+      (λ f. at-once (suc left) n)
+
+  pub search-counts : (limit : ℕ) (b : Bracket) → 1 ≤ limit → (1 ≤ countOf (searchOf time t limit b)) × (countOf (searchOf time t limit b) ≤ limit)
+  unfolding searchOf
+  search-counts limit b l = let c = hunt-counted (limit - 1) 0 b (firstGuess b t) in omega arith

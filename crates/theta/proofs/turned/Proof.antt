@@ -1,0 +1,34 @@
+-- `theta::turned` meets its contract: the functions at half the angle, and the root of p.
+use mathlib.Core.Path.{refl, sym, _∙_}
+use borrow.Author.Needs.{needs}
+use Rattle.conic.specs.Tests.{onward}
+use Rattle.conic.proofs.Rows.{root-given, root-refused}
+use Rattle.theta.specs.Theta.{turnedState}
+use Rattle.theta.proofs.turned.Statement.{statement}
+use Rattle.theta.proofs.turned.Tie as tie
+
+universal-requires : tie.Need-universal-requires
+universal-requires c κs = search needs
+
+root-requires : tie.Need-root-requires
+root-requires c κs = search needs
+
+enum-known-k : tie.Need-enum-known-k
+enum-known-k c = search needs
+
+reached-requires : tie.Need-reached-requires
+reached-requires c κs = search needs
+
+enum-told : tie.Need-enum-told
+enum-told c = search needs
+
+returns : tie.Need-returns
+unfolding onward turnedState
+returns c = c .reached .ensures ∙ sym (rw (root-given (c .before .before .before .before .before .before .args .o .p) (c .before .before .k .given .0 .0) (c .before .before .before .before .root .result) (c .before .before .before .before .root .ensures) (c .before .before .k .given .1), ← c .before .before .before .before .before .universal .ensures) refl)
+
+returns-2 : tie.Need-returns-2
+unfolding onward turnedState
+returns-2 c = rw (root-refused (c .before .before .before .before .args .o .p) (c .enum-told .given .0 .0) (c .before .before .root .result) (c .before .before .root .ensures) (c .enum-told .given .1)) refl
+
+pub turned-spec : {M : Type 1} → statement M
+turned-spec = tie.close (tie.spec universal-requires root-requires enum-known-k reached-requires enum-told returns returns-2)
