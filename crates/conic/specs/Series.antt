@@ -1,10 +1,12 @@
 -- C2 and C3: document 01, "The universal functions". Definitions only.
-use Prim.Native.Nat.{ℕ, zero, suc, _+_, _*_}
-use mathlib.Core.Bool.{false}
+use Prim.Native.Nat.{ℕ, zero, suc, _+_, _*_, _≤_}
+use mathlib.Core.Path.{_≡_}
+use mathlib.Core.Bool.{false, cond}
 use mathlib.Core.List.{List, [], _∷_}
 use lib.ListN.{getD}
-use lib.Ieee.{Float, nan, binary64, round, neg}
-use Rattle.exact.specs.Numbers.{_⊕_, _⊗_}
+use lib.Dec.{T}
+use lib.Ieee.{Float, nan, binary64, round, neg, lt}
+use Rattle.exact.specs.Numbers.{_⊕_, _⊗_, nought, Number, minus, steps, distance, inSteps}
 
 -- n!
 abbrev pub factorial : ℕ → ℕ
@@ -32,3 +34,20 @@ workedFrom table z (suc k) sum = workedFrom table z k (sum ⊗ neg z ⊕ getD ta
 -- "worked from k = 11 down: start with the last coefficient"
 unfoldable pub worked : List Float → Float → Float
 worked table z = workedFrom table z 11 (getD table 11 nan)
+
+-- ---- "each entry is the binary64 number nearest 1/n!": over whole numbers, among all binary64 numbers
+
+-- |y| over whole numbers: in steps of 2^-1074, and times n!
+abbrev pub sized : (n : ℕ) (y : Float) → ℕ
+sized n y = steps binary64 y * factorial n
+
+-- |y - 1/n!| so; 1/n! itself is then 1 in steps
+unfoldable pub off : (n : ℕ) (y : Float) → ℕ
+off n y = cond (minus y) (sized n y + inSteps 0) (distance (sized n y) (inSteps 0))
+
+-- r is a finite number above zero, none is nearer to 1/n!, and none but r is as near
+pub record IsNearestInverse (n : ℕ) (r : Float) : Type 0 where
+  pub number : Number binary64 r
+  pub positive : T (lt nought r)
+  pub nearest : (y : Float) → Number binary64 y → off n r ≤ off n y
+  pub alone : (y : Float) → Number binary64 y → off n y ≤ off n r → y ≡ r

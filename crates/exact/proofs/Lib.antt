@@ -11,3 +11,4 @@ pub mod Zero
 pub mod Words
 pub mod Tolerance
 pub mod Middle
+pub mod OneStep

@@ -2,12 +2,12 @@
 -- bit clear", which sums, products and quotients keep. What is not minus is never below zero, so a sum of squares never is.
 use mathlib.Core.Path.{_≡_, refl, sym, _∙_}
 use mathlib.Core.Bool.{Bool, true, false, cond, true≢false}
-use Prim.Native.Nat.{ℕ, _+_, _*_, zero-le}
+use Prim.Native.Nat.{ℕ, zero, suc, _+_, _*_, zero-le}
 use native.Mathlib.Nat.{le-trans, le-of-eq, zero-mul}
 use borrow.Author.Tests.{le-ltb}
 use lib.Dec.{eqb}
-use lib.Ieee.{Float, nan, inf, fin, Format, binary64, up, down, unlike, round, sum, add, mul, div, lt, ofBits}
-use Rattle.exact.specs.Numbers.{nought, minus, _⊕_, _⊗_}
+use lib.Ieee.{Float, nan, inf, fin, Format, binary64, up, down, fits, unlike, round, sum, add, mul, div, lt, ofBits}
+use Rattle.exact.specs.Numbers.{nought, Number, magnitude, minus, _⊕_, _⊗_}
 use Rattle.exact.proofs.Rounding.{round-minus}
 
 -- ---- a sum of two that are not minus
@@ -76,3 +76,11 @@ not-below-zero (fin false m e) h = le-ltb (m * up e * 1) (0 * down e) (le-trans 
 
 pub three-squares : (a b c : Float) → minus (a ⊗ a ⊕ b ⊗ b ⊕ c ⊗ c) ≡ false
 three-squares a b c = add-plus binary64 (a ⊗ a ⊕ b ⊗ b) (c ⊗ c) (add-plus binary64 (a ⊗ a) (b ⊗ b) (mul-plus binary64 a a refl) (mul-plus binary64 b b refl)) (mul-plus binary64 c c refl)
+
+-- |x| is a number that is not minus
+pub magnitude-plus : (x : Float) → Number binary64 x → Number binary64 (magnitude x) × (minus (magnitude x) ≡ false)
+unfolding magnitude fits
+magnitude-plus nan h = absurd (h .1)
+magnitude-plus (inf s) h = absurd (h .1)
+magnitude-plus (fin s zero e) h = (h, refl)
+magnitude-plus (fin s (suc m) e) h = (h, refl)

@@ -1,15 +1,18 @@
--- Zero beside a finite number: 0 + x and x - 0 are x where x is not minus, and what lies above zero is not minus and some steps.
+-- Zero beside a finite number: 0 + x and x - 0 are x where x is not minus, what lies above zero is not minus and some steps, and a number
+-- times 0 is a zero of its sign.
 use mathlib.Core.Path.{_≡_, refl, ap, _∙_}
 use mathlib.Core.Logic.{_↔_, Iff·trans}
 use mathlib.Core.Bool.{Bool, true, false, true≢false}
-use Prim.Native.Nat.{ℕ, _+_, _-_, _^_, _<_, zero-le}
-use native.Mathlib.Nat.{zero-add, sub-zero}
+use Prim.Native.Nat.{ℕ, _+_, _-_, _*_, _^_, _<_, zero-le}
+use native.Mathlib.Nat.{zero-add, sub-zero, mul-zero, mul-pos}
 use native.Mathlib.Omega.{arith}
-use lib.Dec.{T}
-use lib.Ieee.{Float, binary64, low, round, lt, ofBits}
+use lib.IntN.{pos}
+use lib.Dec.{T, lit<}
+use lib.Ieee.{Float, nan, inf, fin, binary64, low, up, down, unlike, round, mul, lt, ofBits}
+use lib.Ieee.Fits.{down-pos}
 use lib.Ieee.Bits.{ofBits-fits}
-use lib.Ieee.Scale.{overflow}
-use Rattle.exact.specs.Numbers.{nought, Number, minus, steps, _⊕_, _⊖_}
+use lib.Ieee.Scale.{overflow, round-same}
+use Rattle.exact.specs.Numbers.{nought, Number, minus, steps, _⊕_, _⊖_, _⊗_}
 use Rattle.exact.proofs.Rounding.{round-same-number}
 use Rattle.exact.proofs.Order.{along, place, lt-place}
 use Rattle.exact.proofs.Arithmetic.{sum-alike, sum-unlike, add-steps, sub-steps}
@@ -58,3 +61,24 @@ apart o a false = ((λ l. (refl, omega arith)), λ p. omega (arith, p .1))
 pub positive-is : (x : Float) → Number binary64 x → T (lt nought x) ↔ ((minus x ≡ false) × (0 < steps binary64 x))
 unfolding place
 positive-is x h = Iff·trans (rw (nought-plus, nought-steps) at (lt-place binary64 nought x nought-number h)) (apart (overflow binary64) (steps binary64 x) (minus x))
+
+-- ---- a number times 0 is a zero of its sign
+
+-- +0 and -0
+unfoldable pub zero : Bool → Float
+zero s = fin s 0 (pos 0)
+
+round-zero : (s : Bool) (c : ℕ) → 0 < c → round binary64 s 0 c ≡ zero s
+unfolding round zero
+round-zero s c C = round-same binary64 s 0 c 0 1 C (lit< tt) (omega arith)
+
+pub times-nought : (x : Float) → Number binary64 x → x ⊗ nought ≡ zero (minus x)
+unfolding mul ofBits
+times-nought nan h = absurd (h .1)
+times-nought (inf s) h = absurd (h .1)
+times-nought (fin s m e) h =
+    ap (λ (n : ℕ). round binary64 (unlike s false) n (down e * 1)) (mul-zero (m * up e)) ∙ round-zero (unlike s false) (down e * 1) (mul-pos (down-pos e) (lit< tt)) ∙ ap zero (kept s)
+  where
+    kept : (s : Bool) → unlike s false ≡ s
+    kept true = refl
+    kept false = refl
