@@ -1,4 +1,5 @@
--- What a problem that passes the entry tests is: each test held, s, alpha and t are numbers, and the bracket is the starting one.
+-- What a problem that passes the entry tests is: each test held, s, alpha, p and t are numbers, and the bracket is the starting one. And what
+-- a state that passes the tests of an arrival is.
 use mathlib.Core.Path.{_≡_, refl, sym, subst}
 use mathlib.Core.Bool.{Bool, true, false, cond, not, _&&_}
 use Prim.Native.Nat.{_≤_}
@@ -14,9 +15,11 @@ use Rattle.search.proofs.Hunt.{pointAt}
 use Rattle.conic.specs.declared.Vector.{Vector}
 use Rattle.conic.specs.declared.Problem.{Problem}
 use Rattle.conic.specs.declared.Scaled.{Scaled}
+use Rattle.conic.specs.declared.State.{State}
 use Rattle.conic.specs.Tests.{Checked, pass, guard, onward}
 use Rattle.conic.specs.Vectors.{dot, allFinite, over, times}
 use Rattle.conic.specs.Functions.{timeAt}
+use Rattle.conic.specs.Unfolding.{leastRatio, unfolded, arrivalOf}
 use Rattle.conic.specs.Entry.{straight, givenFinite, radiusOf, unitOf, testedBy, scaledBy, scaledOf, farEndOf, startingBracket, bracketedBy, startOf, entryOf}
 use Rattle.conic.proofs.Rows.{pass-once, test-passed, rows-passed}
 
@@ -117,3 +120,20 @@ entered p o b h =
       far-reaches = B .0;
       bracket-is = refl;
     })
+
+-- ---- the arrival
+
+pub record Arrives (o : Scaled) (u1 u2 ratio : Float) (state : State) : Type 0 where
+  pub allowed : le leastRatio ratio ≡ true
+  pub finite : allFinite (state .r) && allFinite (state .v) ≡ true
+  pub state-is : unfolded o u1 u2 ratio ≡ state
+
+pub arrives : (o : Scaled) (u1 u2 ratio : Float) (state : State) → arrivalOf o u1 u2 ratio ≡ pass state → Arrives o u1 u2 ratio state
+unfolding arrivalOf
+arrives o u1 u2 ratio state h =
+    let there = unfolded o u1 u2 ratio in
+    let all-finite = allFinite (there .r) && allFinite (there .v) in
+    let first = test-passed (le leastRatio ratio) 11 (guard all-finite 6 (pass there)) h in
+    let second = test-passed all-finite 6 (pass there) (first .1) in
+    let is : there ≡ state = pass-once (second .1) in
+    record { allowed = first .0; finite = subst (λ (a : State). allFinite (a .r) && allFinite (a .v) ≡ true) is (second .0); state-is = is }

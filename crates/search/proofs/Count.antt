@@ -1,4 +1,6 @@
--- A search makes at least one guess and at most `limit`: a hunt after n guesses, with `left` more allowed, makes its own and at most those.
+-- A search makes at least one guess and at most `limit`, and all of them where it is spent: a hunt after n guesses, with `left` more
+-- allowed, makes its own and at most those.
+use mathlib.Core.Path.{_≡_, subst}
 use Prim.Native.Nat.{ℕ, zero, suc, _+_, _-_, _≤_}
 use native.Mathlib.Omega.{arith}
 use lib.Ieee.{Float}
@@ -13,23 +15,33 @@ countOf (closed b n) = n
 countOf (spent b n) = n
 countOf (lost n) = n
 
+-- a search that is spent has made all its guesses, m
+abbrev All : ℕ → Ended → Type 0
+All m (solved x n) = Unit
+All m (closed b n) = Unit
+All m (spent b n) = n ≡ m
+All m (lost n) = Unit
+
 abbrev Counted : (left n : ℕ) → Ended → Type 0
-Counted left n e = (n + 1 ≤ countOf e) × (countOf e ≤ n + 1 + left)
+Counted left n e = (n + 1 ≤ countOf e) × (countOf e ≤ n + 1 + left) × All (n + 1 + left) e
 
 -- an end at this guess
-at-once : (left n : ℕ) → (n + 1 ≤ n + 1) × (n + 1 ≤ n + 1 + left)
-at-once left n = omega arith
+at-once : (left n : ℕ) → (n + 1 ≤ n + 1) × (n + 1 ≤ n + 1 + left) × Unit {0}
+at-once left n = (omega arith, omega arith, tt)
 
 goOn-counted : (left n : ℕ) (again : Bracket → Float → Ended) → ((b : Bracket) (x : Float) → Counted left (n + 1) (again b x))
     → (b : Bracket) (y : Try) → Counted (suc left) n (goOn again (n + 1) b y)
 goOn-counted left n again h b none = at-once (suc left) n
-goOn-counted left n again h b (guess x) = let c = h b x in omega arith
+goOn-counted left n again h b (guess x) =
+    let c = h b x in
+    let same : n + 1 + 1 + left ≡ n + 1 + suc left = omega arith in
+    (omega (arith, c .0), omega (arith, c .1), subst (λ (m : ℕ). All m (again b x)) same (c .2))
 
 module _ (time : Float → Float) (t : Float) where
   hunt-counted : (left n : ℕ) (b : Bracket) (x : Float) → Counted left n (hunt time t left n b x)
   unfolding hunt
   hunt-counted zero n b x =
-      guessed-by time t (n + 1) b x (λ new y. spent new (n + 1)) (Counted 0 n) (λ f e. at-once 0 n) (λ f. at-once 0 n) (λ f. at-once 0 n)
+      guessed-by time t (n + 1) b x (λ new y. spent new (n + 1)) (Counted 0 n) (λ f e. at-once 0 n) (λ f. (omega arith, omega arith, omega arith)) (λ f. at-once 0 n)
   hunt-counted (suc left) n b x =
       let g = pointAt time x in
       let again = hunt time t left (n + 1) in
@@ -39,4 +51,8 @@ module _ (time : Float → Float) (t : Float) where
 
   pub search-counts : (limit : ℕ) (b : Bracket) → 1 ≤ limit → (1 ≤ countOf (searchOf time t limit b)) × (countOf (searchOf time t limit b) ≤ limit)
   unfolding searchOf
-  search-counts limit b l = let c = hunt-counted (limit - 1) 0 b (firstGuess b t) in omega arith
+  search-counts limit b l = let c = hunt-counted (limit - 1) 0 b (firstGuess b t) in (omega (arith, c .0), omega (arith, c .1))
+
+  pub spent-counts : (limit : ℕ) (b : Bracket) → 1 ≤ limit → {new : Bracket} {n : ℕ} → searchOf time t limit b ≡ spent new n → n ≡ limit
+  unfolding searchOf
+  spent-counts limit b l e = let c = subst (All (0 + 1 + (limit - 1))) e (hunt-counted (limit - 1) 0 b (firstGuess b t) .2) in omega (arith, c)
