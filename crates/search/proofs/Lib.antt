@@ -2,3 +2,4 @@ pub mod Hunt
 pub mod Turns
 pub mod Count
 pub mod Laws
+pub mod Theorems

@@ -1,36 +1,48 @@
 // Little-endian words in a slice of bytes.
 //
-// Every function here is proved and total, and the crate assumes nothing.
+// Every function here is proved, the public ones are total, and the crate assumes nothing.
 ghost use mathlib.Core.Path.{_≡_};
-ghost use Rattle.words.specs.Words.{valueAt};
+ghost use Prim.Native.Nat.{_+_, _^_, _≤_, _<_};
+ghost use lib.ListN.{length, drop};
+ghost use Rattle.words.specs.Words.{value, valueAt};
 
 // The eight bytes of s from index at on as a word, the lowest first; 0 where s ends before.
 pub fn word(s: &[u8], at: usize) -> u64
     ensures { λ r. ⌜ r ≡ valueAt 8 (now (s .entry)) at ⌝ }
 {
-    let n = s.len();
-    if n < 8 || n - 8 < at {
+    if s.len() < 8 {
         return 0;
     }
-    wide(half(s, at)) + wide(half(s, at + 4)) * 0x1_0000_0000
+    if s.len() - 8 < at {
+        return 0;
+    }
+    bytes(s, at, 8)
 }
 
 // The four bytes of s from index at on as a word, the lowest first; 0 where s ends before.
 pub fn half(s: &[u8], at: usize) -> u32
     ensures { λ r. ⌜ r ≡ valueAt 4 (now (s .entry)) at ⌝ }
 {
-    let n = s.len();
-    if n < 4 || n - 4 < at {
+    if s.len() < 4 {
         return 0;
     }
-    s[at] as u32
-        + s[at + 1] as u32 * 0x100
-        + s[at + 2] as u32 * 0x1_0000
-        + s[at + 3] as u32 * 0x100_0000
+    if s.len() - 4 < at {
+        return 0;
+    }
+    bytes(s, at, 4) as u32
 }
 
-fn wide(h: u32) -> u64
-    ensures { λ r. ⌜ r ≡ h ⌝ }
+// The value of k bytes, from the highest one down.
+fn bytes(s: &[u8], at: usize, k: usize) -> u64
+    requires { ⌜ (at + k ≤ length (now s)) × (k ≤ 8) ⌝ }
+    ensures { λ r. ⌜ r ≡ value k (drop at (now (s .entry))) ⌝ }
+    ensures { λ r. ⌜ r < 256 ^ k ⌝ }
 {
-    h as u64
+    let mut left = k;
+    let mut sum = 0u64;
+    while 0 < left {
+        left -= 1;
+        sum = sum * 256 + s[at + left] as u64;
+    }
+    sum
 }

@@ -1,48 +1,24 @@
-use borrow.Author.Needs.{needs}
+-- `words::word` meets its contract: where s has room for eight bytes from index at on, it is what `bytes` says of them, and else 0.
+use mathlib.Core.Path.{sym, _∙_}
+use native.Mathlib.Omega.{arith}
+use Rattle.words.proofs.Value.{valueAt-inside, valueAt-outside}
 use Rattle.words.proofs.word.Statement.{statement}
 use Rattle.words.proofs.word.Tie as tie
-use Rattle.words.proofs.word.Reads as reads
-use Rattle.words.proofs.word.Lts as lts
-use Rattle.words.proofs.half.Reads as half-reads
-use Rattle.words.proofs.wide.Reads as wide-reads
 
 returns : tie.Need-returns
-returns c = ?
+returns c = sym (valueAt-outside 8 _ _ (omega arith))
 
-half-requires : tie.Need-half-requires
-half-requires c κs = search needs
-
-wide-requires : tie.Need-wide-requires
-wide-requires c κs = search needs
-
-add-half : tie.Need-add-half
-add-half c = ?
-
-half-requires-2 : tie.Need-half-requires-2
-half-requires-2 c κs = search needs
-
-wide-requires-2 : tie.Need-wide-requires-2
-wide-requires-2 c κs = search needs
-
-mul-result : tie.Need-mul-result
-mul-result c = search needs
-
-add-result : tie.Need-add-result
-add-result c = search needs
+sub-if2 : tie.Need-sub-if2
+sub-if2 c = omega arith
 
 returns-2 : tie.Need-returns-2
-returns-2 c = ?
+returns-2 c = sym (valueAt-outside 8 _ _ (omega arith))
+
+bytes-requires : tie.Need-bytes-requires
+bytes-requires c κs = omega arith
+
+returns-3 : tie.Need-returns-3
+returns-3 c = c .bytes .ensures .0 ∙ sym (valueAt-inside 8 _ _ (omega arith))
 
 pub word-spec : {M : Type 1} → statement M
-word-spec =
-    tie.close
-    (tie.spec
-    returns
-    half-requires
-    wide-requires
-    add-half
-    half-requires-2
-    wide-requires-2
-    mul-result
-    add-result
-    returns-2)
+word-spec = tie.close (tie.spec returns sub-if2 returns-2 bytes-requires returns-3)

@@ -1,0 +1,111 @@
+-- Two answers that meet a contract coincide, for each public function that answers an enum: what is said of an answer can be undone, and the
+-- number of a reason names the reason. The contracts of the others are equations of the result itself (exact's `one-result`).
+use mathlib.Core.Path.{_≡_, refl, ap}
+use mathlib.Core.List.{List, [], _∷_}
+use Prim.Native.Nat.{ℕ}
+use lib.ListN.{getD}
+use lib.Ieee.{Float}
+use Rattle.exact.proofs.Coincidence.{one-result, undone}
+use Rattle.search.specs.declared.Bracket.{Bracket}
+use Rattle.conic.specs.declared.Vector.{Vector}
+use Rattle.conic.specs.declared.State.{State}
+use Rattle.conic.specs.declared.Problem.{Problem}
+use Rattle.conic.specs.declared.Scaled.{Scaled}
+use Rattle.conic.specs.declared.Reason.{Reason}
+use Rattle.conic.specs.declared.Reason.the-variants as why
+use Rattle.conic.specs.declared.Outcome.{Outcome}
+use Rattle.conic.specs.declared.Outcome.the-variants as outcome
+use Rattle.conic.specs.declared.unfolding.Arrival.{Arrival}
+use Rattle.conic.specs.declared.unfolding.Arrival.the-variants as arrival
+use Rattle.conic.specs.declared.entry.Scaling.{Scaling}
+use Rattle.conic.specs.declared.entry.Scaling.the-variants as scaling
+use Rattle.conic.specs.declared.entry.Start.{Start}
+use Rattle.conic.specs.declared.entry.Start.the-variants as start
+use Rattle.conic.specs.Tests.{Checked, pass, refuse}
+use Rattle.conic.specs.Said.{Said, solved, refused, refusedWithBracket, numberOf, said, withState, arrived, passedScaled, passedStart}
+use Rattle.conic.specs.Unfolding.{arrivalOf}
+use Rattle.conic.specs.Entry.{entryOf, angleEntryOf}
+
+-- ---- a reason by its number: a list from 0 on, where the numbers 0 and 13 are no prediction's
+abbrev reasons : List Reason
+reasons =
+    why.RootRefused
+    ∷ why.InputNotFinite
+    ∷ why.MuNotPositive
+    ∷ why.LimitOutOfRange
+    ∷ why.AngleTooLarge
+    ∷ why.NoRadius
+    ∷ why.NotFinite
+    ∷ why.StraightLine
+    ∷ why.BeyondFarEnd
+    ∷ why.BracketClosed
+    ∷ why.LimitReached
+    ∷ why.TooNearCentre
+    ∷ why.TowardsInfinity
+    ∷ why.RootRefused
+    ∷ why.RootRefused
+    ∷ []
+
+abbrev reasonOf : ℕ → Reason
+reasonOf k = getD reasons k why.RootRefused
+
+reason-is : (r : Reason) → reasonOf (numberOf r) ≡ r
+reason-is why.InputNotFinite = refl
+reason-is why.MuNotPositive = refl
+reason-is why.LimitOutOfRange = refl
+reason-is why.AngleTooLarge = refl
+reason-is why.NoRadius = refl
+reason-is why.NotFinite = refl
+reason-is why.StraightLine = refl
+reason-is why.BeyondFarEnd = refl
+reason-is why.BracketClosed = refl
+reason-is why.LimitReached = refl
+reason-is why.TooNearCentre = refl
+reason-is why.TowardsInfinity = refl
+reason-is why.RootRefused = refl
+
+-- ---- a prediction's answer
+
+abbrev unsaid : Said → Outcome
+unsaid (solved x n state) = outcome.Solved x n state
+unsaid (refused k n) = outcome.Refused (reasonOf k) n
+unsaid (refusedWithBracket k n lo hi) = outcome.RefusedWithBracket (reasonOf k) n lo hi
+
+unsaid-is : (a : Outcome) → unsaid (said a) ≡ a
+unsaid-is (outcome.Solved x n state) = refl
+unsaid-is (outcome.Refused r n) = ap (λ (k : Reason). outcome.Refused k n) (reason-is r)
+unsaid-is (outcome.RefusedWithBracket r n lo hi) = ap (λ (k : Reason). outcome.RefusedWithBracket k n lo hi) (reason-is r)
+
+pub one-said : (s : Said) (a b : Outcome) → said a ≡ s → said b ≡ s → a ≡ b
+one-said s a b p q = undone said unsaid unsaid-is a b (one-result p q)
+
+pub one-outcome : (arrival : Arrival) (x : Float) (n : ℕ) (a b : Outcome) → said a ≡ withState x n (arrived arrival) → said b ≡ withState x n (arrived arrival) → a ≡ b
+one-outcome arrival x n a b p q = one-said (withState x n (arrived arrival)) a b p q
+
+-- ---- the answers on the way: something passed, or a reason
+
+module _ {A B : Type 0} (told : A → Checked B) (passed : B → A) (failed : Reason → A) where
+  abbrev untold : Checked B → A
+  untold (pass x) = passed x
+  untold (refuse k) = failed (reasonOf k)
+
+unarrived : (a : Arrival) → untold arrived arrival.State arrival.Refused (arrived a) ≡ a
+unarrived (arrival.State state) = refl
+unarrived (arrival.Refused r) = ap arrival.Refused (reason-is r)
+
+pub one-arrival : (o : Scaled) (u1 u2 ratio : Float) (a b : Arrival) → arrived a ≡ arrivalOf o u1 u2 ratio → arrived b ≡ arrivalOf o u1 u2 ratio → a ≡ b
+one-arrival o u1 u2 ratio a b p q = undone arrived (untold arrived arrival.State arrival.Refused) unarrived a b (one-result p q)
+
+unscaled : (a : Scaling) → untold passedScaled scaling.Passed scaling.Refused (passedScaled a) ≡ a
+unscaled (scaling.Passed o) = refl
+unscaled (scaling.Refused r) = ap scaling.Refused (reason-is r)
+
+pub one-angle-entry : (mu : Float) (r v : Vector) (angle : Float) (a b : Scaling) → passedScaled a ≡ angleEntryOf mu r v angle → passedScaled b ≡ angleEntryOf mu r v angle → a ≡ b
+one-angle-entry mu r v angle a b p q = undone passedScaled (untold passedScaled scaling.Passed scaling.Refused) unscaled a b (one-result p q)
+
+unstarted : (a : Start) → untold passedStart (λ (e : Scaled × Bracket). start.Passed (e .0) (e .1)) start.Refused (passedStart a) ≡ a
+unstarted (start.Passed o b) = refl
+unstarted (start.Refused r) = ap start.Refused (reason-is r)
+
+pub one-entry : (problem : Problem) (a b : Start) → passedStart a ≡ entryOf problem → passedStart b ≡ entryOf problem → a ≡ b
+one-entry problem a b p q = undone passedStart (untold passedStart (λ (e : Scaled × Bracket). start.Passed (e .0) (e .1)) start.Refused) unstarted a b (one-result p q)
