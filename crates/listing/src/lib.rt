@@ -13,6 +13,7 @@ use root::Answer;
 ghost use mathlib.Core.Path.{_≡_};
 ghost use Prim.Native.Nat.{_+_, _≤_, _<_};
 ghost use lib.ListN.{length};
+ghost use Rattle.io.specs.Counts.{Counts};
 
 // What is asked of each record.
 pub enum Question {
@@ -51,12 +52,20 @@ fn width(asked: Question) -> usize
 fn block(asked: Question) -> bool {
     let mut space = [0u8; 4352];
     let size = 64 * width(asked);
-    let got = io::read_full(STDIN_FILENO, &mut space[..size]);
+    let got = filled(&mut space, size);
     let at = answers(asked, &space[..got]);
     if at < got {
         io::write_all(STDOUT_FILENO, b"short\n");
     }
     got == size
+}
+
+// Reads up to size bytes into space. Answers how many came.
+fn filled(space: &mut [u8], size: usize) -> usize
+    requires { ⌜ size ≤ length (now space) ⌝ }
+    ensures { λ r. ⌜ Counts r (now (space .exit)) ⌝ }
+{
+    io::read_full(STDIN_FILENO, &mut space[..size])
 }
 
 // The line for input beyond the last place, where there is any.
