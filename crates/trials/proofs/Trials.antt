@@ -1,11 +1,18 @@
 -- The table of trials holds: antt computes each line from the definitions.
 use mathlib.Core.Path.{refl}
-use lib.Ieee.{round, lt, eq, ofBits}
-use Rattle.exact.specs.Numbers.{steps}
+use lib.Ieee.{round, add, sub, mul, div, neg, lt, le, eq, ne, ofBits}
+use Rattle.exact.specs.Numbers.{magnitude, isNear, steps}
 use Rattle.root.specs.Whole.{wholeRoot}
 use Rattle.root.specs.Root.{radicand, nearestRoot, rootOf}
+use Rattle.search.specs.Search.{firstGuess, narrowedBy, nextGuess, hunt, searchOf}
+use Rattle.conic.specs.Tests.{guard, onward}
+use Rattle.conic.specs.Series.{coefficients, workedFrom, worked}
+use Rattle.conic.specs.Functions.{functionsAt, timeAt}
+use Rattle.conic.specs.Unfolding.{unfolded, arrivalOf}
+use Rattle.conic.specs.Entry.{rooted, radiusOf, unitOf, testedBy, scaledBy, scaledOf, farEndOf, bracketedBy, startOf, entryOf}
+use Rattle.kepler.specs.Kepler.{arrivedAt, foundIn, keplerOf}
 use Rattle.trials.specs.Table.{AllHold, table}
 
 pub all-hold : AllHold table
-unfolding round lt eq ofBits steps wholeRoot radicand nearestRoot rootOf
-all-hold = (refl, (refl, (refl, (refl, (refl, tt)))))
+unfolding round add sub mul div neg lt le eq ne ofBits magnitude isNear steps wholeRoot radicand nearestRoot rootOf firstGuess narrowedBy nextGuess hunt searchOf guard onward coefficients workedFrom worked functionsAt timeAt unfolded arrivalOf rooted radiusOf unitOf testedBy scaledBy scaledOf farEndOf bracketedBy startOf entryOf arrivedAt foundIn keplerOf
+all-hold = (refl, (refl, (refl, (refl, (refl, (refl, (refl, (refl, (refl, (refl, (refl, (refl, (refl, (refl, (refl, tt)))))))))))))))

@@ -1,28 +1,93 @@
 -- The trials that document 01 marks P ("Trials"), in its order: one table, a line a trial. Definitions only.
 use mathlib.Core.Path.{_≡_}
 use mathlib.Core.List.{List, [], _∷_}
-use lib.Ieee.{Float}
-use Rattle.exact.specs.Numbers.{numberOf}
-use Rattle.root.specs.Said.{Said, root, refused}
+use Prim.Native.Nat.{ℕ}
+use lib.Ieee.{Float, nan}
+use Rattle.exact.specs.Numbers.{numberOf, nought}
+use Rattle.root.specs.Said as root
 use Rattle.root.specs.Root.{rootOf}
+use Rattle.search.specs.declared.Bracket.{Bracket}
+use Rattle.conic.specs.declared.Vector.{Vector}
+use Rattle.conic.specs.declared.State.{State}
+use Rattle.conic.specs.declared.Problem.{Problem}
+use Rattle.conic.specs.declared.Scaled.{Scaled}
+use Rattle.conic.specs.Tests.{Checked, pass, onward}
+use Rattle.conic.specs.Said.{Said, solved, refused, refusedWithBracket}
+use Rattle.conic.specs.Functions.{one, four, functionsAt, ratioOf}
+use Rattle.conic.specs.Unfolding.{unfolded}
+use Rattle.conic.specs.Entry.{sixtyFour, eight, entryOf}
+use Rattle.kepler.specs.Kepler.{keplerOf}
 
 -- a trial: what is tried, and what it has to give
 pub data Trial : Type 0 where
-  rootGives : Float → Said → Trial
+  rootGives : Float → root.Said → Trial
+  -- alpha and the far end X, forwards
+  startsWith : Problem → (alpha X : Float) → Trial
+  -- at x: U1, U2, R and the position
+  unfoldsAt : Problem → (x : Float) → (u1 u2 ratio : Float) → Vector → Trial
+  keplerGives : Problem → Said → Trial
+
+abbrev alphaAndFarEnd : Scaled × Bracket → Float × Float
+alphaAndFarEnd e = (e .0 .alpha, e .1 .hi .x)
+
+abbrev unfoldedAt : Float → Scaled × Bracket → Float × Float × Float × Vector
+unfoldedAt x e =
+    let o = e .0 in
+    let u = functionsAt x (o .alpha) in
+    let ratio = ratioOf (o .s) u in
+    (u .u1, u .u2, ratio, unfolded o (u .u1) (u .u2) ratio .r)
 
 abbrev pub Holds : Trial → Type 0
 Holds (rootGives x s) = rootOf x ≡ s
+Holds (startsWith p alpha X) = onward (entryOf p) (λ e. pass (alphaAndFarEnd e)) ≡ pass (alpha, X)
+Holds (unfoldsAt p x u1 u2 ratio r) = onward (entryOf p) (λ e. pass (unfoldedAt x e)) ≡ pass (u1, u2, ratio, r)
+Holds (keplerGives p s) = keplerOf p ≡ s
 
 abbrev pub AllHold : List Trial → Type 0
 AllHold [] = Unit {0}
 AllHold (t ∷ ts) = Holds t × AllHold ts
 
+-- "mu 1, r (1,0,0) unless told"
+abbrev vector : (x y z : Float) → Vector
+vector x y z = record { x = x; y = y; z = z }
+
+abbrev given : (mu : Float) (v : Vector) (dt : Float) (limit : ℕ) → Problem
+given mu v dt limit = record { mu = mu; r = vector one nought nought; v = v; dt = dt; limit = limit }
+
+abbrev problem : (v : Vector) (dt : Float) (limit : ℕ) → Problem
+problem v dt limit = given one v dt limit
+
+-- the state that is given, after no time
+abbrev theStateGiven : (v : Vector) → Said
+theStateGiven v = solved nought 1 (record { r = vector one nought nought; v = v })
+
+abbrev diagonal : Vector
+diagonal = vector one one nought
+
+abbrev across : Float → Vector
+across y = vector nought y nought
+
 abbrev pub table : List Trial
 table =
     -- root: 4 gives 2; 0.25 gives 0.5; 2^-1074 gives 2^-537; -0 gives -0; -1 gives 13
-    rootGives (numberOf 0x4010_0000_0000_0000) (root (numberOf 0x4000_0000_0000_0000))
-    ∷ rootGives (numberOf 0x3fd0_0000_0000_0000) (root (numberOf 0x3fe0_0000_0000_0000))
-    ∷ rootGives (numberOf 0x0000_0000_0000_0001) (root (numberOf 0x1e60_0000_0000_0000))
-    ∷ rootGives (numberOf 0x8000_0000_0000_0000) (root (numberOf 0x8000_0000_0000_0000))
-    ∷ rootGives (numberOf 0xbff0_0000_0000_0000) (refused 13)
+    rootGives (numberOf 0x4010_0000_0000_0000) (root.root (numberOf 0x4000_0000_0000_0000))
+    ∷ rootGives (numberOf 0x3fd0_0000_0000_0000) (root.root (numberOf 0x3fe0_0000_0000_0000))
+    ∷ rootGives (numberOf 0x0000_0000_0000_0001) (root.root (numberOf 0x1e60_0000_0000_0000))
+    ∷ rootGives (numberOf 0x8000_0000_0000_0000) (root.root (numberOf 0x8000_0000_0000_0000))
+    ∷ rootGives (numberOf 0xbff0_0000_0000_0000) (root.refused 13)
+    -- v (1,1,0): alpha 0, X 64. At x = 4: U1 4, U2 8, R 13, position (5,12,0)
+    ∷ startsWith (problem diagonal nought 20) nought sixtyFour
+    ∷ unfoldsAt (problem diagonal nought 20) four four eight (numberOf 0x402a_0000_0000_0000) (vector (numberOf 0x4014_0000_0000_0000) (numberOf 0x4028_0000_0000_0000) nought)
+    -- v (0,1,0), dt 0: solved, x 0, count 1, the state given
+    ∷ keplerGives (problem (across one) nought 20) (theStateGiven (across one))
+    -- v (1,0,0), dt 0: 7. v (0,2^-10,0), dt 0: solved; v (0,2^-11,0), dt 0: 7
+    ∷ keplerGives (problem (vector one nought nought) nought 20) (refused 7 0)
+    ∷ keplerGives (problem (across (numberOf 0x3f50_0000_0000_0000)) nought 20) (theStateGiven (across (numberOf 0x3f50_0000_0000_0000)))
+    ∷ keplerGives (problem (across (numberOf 0x3f40_0000_0000_0000)) nought 20) (refused 7 0)
+    -- limit 0: 3; limit 101: 3. mu -1 with a NaN velocity: 1
+    ∷ keplerGives (problem (across one) nought 0) (refused 3 0)
+    ∷ keplerGives (problem (across one) nought 101) (refused 3 0)
+    ∷ keplerGives (given (numberOf 0xbff0_0000_0000_0000) (across nan) nought 20) (refused 1 0)
+    -- v (1,1,0), dt 20, limit 1: 10, count 1, bracket 0 to 20
+    ∷ keplerGives (problem diagonal (numberOf 0x4034_0000_0000_0000) 1) (refusedWithBracket 10 1 nought (numberOf 0x4034_0000_0000_0000))
     ∷ []
