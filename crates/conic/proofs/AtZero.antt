@@ -1,17 +1,12 @@
 -- The functions at 0 are 1, 0, 0 and 0, and the time there is 0, exactly. Only alpha and s are not known, and each is only ever multiplied
 -- by 0, which leaves a zero of its sign (`times-nought`). What is left are computations with closed numbers.
-use mathlib.Core.Path.{_≡_, refl, ap, _∙_}
+use mathlib.Core.Path.{_≡_, refl}
 use mathlib.Core.Bool.{Bool, true, false}
-use Prim.Native.Nat.{ℕ, _*_, _<_}
-use native.Mathlib.Nat.{mul-zero, mul-pos, not-le-of-lt, le-of-lt}
-use native.Mathlib.Omega.{arith}
-use lib.IntN.{pos}
-use lib.Dec.{T-not, not-T, lit<}
-use lib.Ieee.{Float, nan, inf, fin, binary64, up, down, unlike, round, mul, div, add, sub, neg, lt, le, eq, ofBits}
-use lib.Ieee.Fits.{down-pos}
+use native.Mathlib.Nat.{not-le-of-lt, le-of-lt}
+use lib.Dec.{T-not, not-T}
+use lib.Ieee.{Float, binary64, round, mul, div, add, sub, neg, lt, le, eq, ofBits}
 use lib.Ieee.Bits.{is-true, is-false}
-use lib.Ieee.Scale.{round-same}
-use Rattle.exact.specs.Numbers.{_⊕_, _⊖_, _⊗_, _⊘_, nought, two, Number, minus}
+use Rattle.exact.specs.Numbers.{_⊕_, _⊖_, _⊗_, _⊘_, nought, two, Number}
 use Rattle.exact.proofs.Basics.{passed, failed}
 use Rattle.exact.proofs.Order.{lt-place, eq-place, le-place}
 use Rattle.exact.proofs.Zero.{nought-number, zero, times-nought}

@@ -3,18 +3,18 @@
 -- 1, so it doesn't overflow, and for the n in use more than a step, so it is above zero. No other number is as near: below n = 3 the entry is
 -- 1/n! itself, and from there on n! is a multiple of 3, so that twice 1/n! is no whole number of steps, and 1/n! midway between no two.
 use mathlib.Core.Path.{_≡_, refl, sym, ap, _∙_, subst}
-use mathlib.Core.Bool.{Bool, true, false, cond}
+use mathlib.Core.Bool.{Bool, true, false}
 use mathlib.Core.Logic.{_⊎_, inl, inr, ⊎-elim}
 use Prim.Native.Nat.{ℕ, zero, suc, _+_, _*_, _%_, _≤_, _<_, zero-le}
 use native.Mathlib.Nat.{le-refl, le-trans, le-of-eq, le-of-lt, lt-of-lt-of-le, lt-of-le-of-lt, mul-pos, mul-le-mul-left, eq-or-lt-of-le, not-le-of-lt, mul-mod-right, one-mul, zero-add, add-mul, eq-zero-or-pos, eq-of-mul-eq-mul-right, le-add-left}
 use native.Mathlib.Omega.{arith}
 use lib.Dec.{T, lit<, lit≤}
 use lib.ListN.{getD}
-use lib.Ieee.{Float, nan, binary64, lt, ofBits}
+use lib.Ieee.{Float, nan, binary64, ofBits}
 use lib.Ieee.Fits.{round-fits}
 use lib.Ieee.Bits.{ofBits-fits}
 use lib.Ieee.Positive.{first-pos}
-use Rattle.exact.specs.Numbers.{numberOf, nought, isFinite, Number, minus, steps, distance, inSteps}
+use Rattle.exact.specs.Numbers.{numberOf, isFinite, Number, minus, steps, distance, inSteps}
 use Rattle.exact.proofs.Steps.{steps-lt, same-number}
 use Rattle.exact.proofs.Rounding.{rounded, nothing-nearer, rounded-le, round-steps}
 use Rattle.exact.proofs.OneStep.{step, step-number, step-steps}

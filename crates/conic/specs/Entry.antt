@@ -1,6 +1,5 @@
 -- The tests before the first guess and what they compute: document 01, "From the state to the scaled problem" and "Refusal numbers, in order
 -- of test". Definitions only.
-use Prim.Native.Nat.{ℕ}
 use mathlib.Core.Bool.{Bool, cond, not, _&&_}
 use lib.Dec.{leb}
 use lib.Ieee.{Float, lt, le, ne, neg}

@@ -2,9 +2,9 @@
 -- finite, allowed and in the starting bracket (`solved-means`). A refusal that names a bracket, 9 or 10, names one in the starting bracket
 -- with the wanted time not outside the times of its ends (`bracket-means`), and the times kept beside them are theirs (`times-kept`). Each is
 -- the law of the search, for the time of a scaled problem that passed the entry tests.
-use mathlib.Core.Path.{_≡_, refl, sym, ap, _∙_, subst}
+use mathlib.Core.Path.{_≡_, refl, ap, subst}
 use mathlib.Core.Logic.{_⊎_, inl, inr}
-use mathlib.Core.Bool.{true, false, true≢false}
+use mathlib.Core.Bool.{true, false}
 use Prim.Native.Nat.{ℕ, _≤_}
 use lib.Ieee.{Float, lt, le}
 use Rattle.exact.specs.Numbers.{isFinite, isNear}
@@ -21,8 +21,8 @@ use Rattle.conic.specs.Said.{Said, solved, refused, refusedWithBracket, withSta
 use Rattle.conic.specs.Functions.{functionsAt, timeAt, ratioOf}
 use Rattle.conic.specs.Unfolding.{arrivalOf}
 use Rattle.conic.specs.Entry.{entryOf}
-use Rattle.conic.proofs.Passed.{Entered, entered, Arrives, arrives}
-use Rattle.conic.proofs.Fair.{IsFair, fair}
+use Rattle.conic.proofs.Passed.{entered, Arrives, arrives}
+use Rattle.conic.proofs.Fair.{fair}
 use Rattle.kepler.specs.Kepler.{arrivedAt, outcomeOf, foundIn, afterEntry, keplerOf}
 
 -- ---- the count

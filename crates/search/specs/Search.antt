@@ -1,6 +1,6 @@
 -- The search of document 01, "The search", for any unknown: `time` is the time that a guess comes to, `t` the wanted one. Definitions only.
 use Prim.Native.Nat.{ℕ, zero, suc, _+_, _-_}
-use mathlib.Core.Bool.{Bool, true, false, cond, _&&_}
+use mathlib.Core.Bool.{Bool, cond, _&&_}
 use lib.Ieee.{Float, lt, le}
 use Rattle.exact.specs.Numbers.{_⊕_, _⊖_, _⊗_, _⊘_, isFinite, isNear, middle}
 use Rattle.search.specs.declared.Point.{Point}

@@ -1,6 +1,6 @@
 -- The trials that document 01 marks P ("Trials"), in its order: one table, a line a trial. Definitions only.
 use mathlib.Core.Path.{_≡_}
-use mathlib.Core.List.{List, [], _∷_}
+use mathlib.Core.List.{List, _∷_}
 use Prim.Native.Nat.{ℕ}
 use lib.Ieee.{Float, nan}
 use Rattle.exact.specs.Numbers.{numberOf, nought}
@@ -8,10 +8,9 @@ use Rattle.root.specs.Said as root
 use Rattle.root.specs.Root.{rootOf}
 use Rattle.search.specs.declared.Bracket.{Bracket}
 use Rattle.conic.specs.declared.Vector.{Vector}
-use Rattle.conic.specs.declared.State.{State}
 use Rattle.conic.specs.declared.Problem.{Problem}
 use Rattle.conic.specs.declared.Scaled.{Scaled}
-use Rattle.conic.specs.Tests.{Checked, pass, onward}
+use Rattle.conic.specs.Tests.{pass, onward}
 use Rattle.conic.specs.Said.{Said, solved, refused, refusedWithBracket}
 use Rattle.conic.specs.Functions.{one, four, functionsAt, ratioOf}
 use Rattle.conic.specs.Unfolding.{unfolded}

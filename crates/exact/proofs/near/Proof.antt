@@ -6,12 +6,9 @@ use Rattle.exact.specs.Numbers.{tolerance, isNear}
 use Rattle.exact.proofs.near.Statement.{statement}
 use Rattle.exact.proofs.near.Tie as tie
 
-absolute-requires : tie.Need-absolute-requires
-absolute-requires c κs = search needs
-
 returns : tie.Need-returns
 unfolding isNear
 returns c = ap (λ (z : Float). le z tolerance) (c .absolute .ensures)
 
 pub near-spec : {M : Type 1} → statement M
-near-spec = tie.close (tie.spec absolute-requires returns)
+near-spec = tie.close (tie.spec (λ c κs. search needs) returns)

@@ -27,8 +27,5 @@ float-from-bits-result c = no-nan-word binary64 (c .before .args .w) (c .if1 .le
 returns : tie.Need-returns
 returns c = nan-word (c .before .args .w) (c .if1 .taken)
 
-returns-2 : tie.Need-returns-2
-returns-2 c = search needs
-
 pub number-spec : {M : Type 1} → statement M
-number-spec = tie.close (tie.spec float-from-bits-result returns returns-2)
+number-spec = tie.close (tie.spec float-from-bits-result returns (λ c. search needs))

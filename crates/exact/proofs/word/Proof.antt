@@ -26,8 +26,5 @@ float-to-bits-result c = no-nan (c .before .args .x) (c .if1 .left)
 returns : tie.Need-returns
 returns c = sym (ap wordOf (differs-from-itself (c .before .args .x) (passed (c .if1 .taken))) ∙ nan-word)
 
-returns-2 : tie.Need-returns-2
-returns-2 c = search needs
-
 pub word-spec : {M : Type 1} → statement M
-word-spec = tie.close (tie.spec float-to-bits-result returns returns-2)
+word-spec = tie.close (tie.spec float-to-bits-result returns (λ c. search needs))

@@ -5,21 +5,9 @@ use Rattle.kepler.specs.Kepler.{arrivedAt}
 use Rattle.kepler.proofs.arrived.Statement.{statement}
 use Rattle.kepler.proofs.arrived.Tie as tie
 
-universal-requires : tie.Need-universal-requires
-universal-requires c κs = search needs
-
-ratio-requires : tie.Need-ratio-requires
-ratio-requires c κs = search needs
-
-arrive-requires : tie.Need-arrive-requires
-arrive-requires c κs = search needs
-
-outcome-of-requires : tie.Need-outcome-of-requires
-outcome-of-requires c κs = search needs
-
 returns : tie.Need-returns
 unfolding arrivedAt
 returns c = c .outcome-of .ensures ∙ rw (c .before .arrive .ensures, c .before .before .ratio .ensures, c .before .before .before .universal .ensures) refl
 
 pub arrived-spec : {M : Type 1} → statement M
-arrived-spec = tie.close (tie.spec universal-requires ratio-requires arrive-requires outcome-of-requires returns)
+arrived-spec = tie.close (tie.spec (λ c κs. search needs) (λ c κs. search needs) (λ c κs. search needs) (λ c κs. search needs) returns)

@@ -22,9 +22,6 @@ Inv-search o limit t bracket₀ x₀ count₀ bracket x count = (count < limit) 
 abbrev μ-search : tie.MeasureT-search
 μ-search o limit t bracket₀ x₀ count₀ bracket x count = limit - count
 
-first-requires : tie.Need-first-requires Inv-search μ-search
-first-requires c κs = search needs
-
 search-holds : tie.Need-search-holds Inv-search μ-search
 unfolding searchOf
 search-holds c = let whole : c .before .args .limit - 1 - 0 ≡ c .before .args .limit - 1 = omega arith in (omega arith, rw (c .first .ensures, whole) refl)
@@ -32,21 +29,12 @@ search-holds c = let whole : c .before .args .limit - 1 - 0 ≡ c .before .args 
 add-count : tie.Need-add-count Inv-search μ-search
 add-count c = omega (arith, c .search .inv .0)
 
-time-at-requires : tie.Need-time-at-requires Inv-search μ-search
-time-at-requires c κs = search needs
-
-finite-requires : tie.Need-finite-requires Inv-search μ-search
-finite-requires c κs = search needs
-
 returns : tie.Need-returns Inv-search μ-search
 returns c = sym (turn-lost (timeAt (c .before .before .before .before .before .args .o)) (c .before .before .before .before .before .args .o .t) (c .before .before .before .before .before .args .limit - 1 - c .before .before .before .search .count) (c .before .before .before .search .count) (c .before .before .before .search .bracket) (c .before .before .before .search .x) (sym (ap isFinite (c .before .before .time-at .ensures)) ∙ sym (c .before .finite .ensures) ∙ not-true (c .before .finite .result) (c .if1 .taken))) ∙ c .before .before .before .search .inv .1
 
 -- past the first test the time is finite
 finite : (c : tie.Else1 Inv-search μ-search) → isFinite (timeAt (c .before .before .before .before .before .args .o) (c .before .before .before .search .x)) ≡ true
 finite c = sym (ap isFinite (c .before .before .time-at .ensures)) ∙ sym (c .before .finite .ensures) ∙ not-false (c .before .finite .result) (c .if1 .left)
-
-near-requires : tie.Need-near-requires Inv-search μ-search
-near-requires c κs = search needs
 
 -- near as the test found it
 as-found : (c : tie.After-near Inv-search μ-search) → isNear (timeAt (c .before .before .before .before .before .before .args .o) (c .before .before .before .before .search .x)) (c .before .before .before .before .before .before .args .o .t) ≡ c .near .result
@@ -58,9 +46,6 @@ returns-2 c = sym (turn-solved (timeAt (c .before .before .before .before .befor
 far : (c : tie.Else2 Inv-search μ-search) → isNear (timeAt (c .before .before .before .before .before .before .before .args .o) (c .before .before .before .before .before .search .x)) (c .before .before .before .before .before .before .before .args .o .t) ≡ false
 far c = as-found (c .before) ∙ c .if2 .left
 
-narrowed-requires : tie.Need-narrowed-requires Inv-search μ-search
-narrowed-requires c κs = search needs
-
 -- the bracket that the guess narrows
 new : (c : tie.After-narrowed Inv-search μ-search) → c .narrowed .result ≡ narrowedBy (c .before .before .before .before .before .before .search .bracket) (pointAt (timeAt (c .before .before .before .before .before .before .before .before .args .o)) (c .before .before .before .before .before .before .search .x)) (c .before .before .before .before .before .before .before .before .args .o .t)
 new c = c .narrowed .ensures ∙ ap (λ (z : Float). narrowedBy (c .before .before .before .before .before .before .search .bracket) (record { x = c .before .before .before .before .before .before .search .x; time = z }) (c .before .before .before .before .before .before .before .before .args .o .t)) (c .before .before .before .before .before .time-at .ensures)
@@ -71,18 +56,9 @@ returns-3 c =
     ∙ sym (turn-spent (timeAt (c .before .before .before .before .before .before .before .before .before .args .o)) (c .before .before .before .before .before .before .before .before .before .args .o .t) (c .before .before .before .before .before .before .before .search .count) (c .before .before .before .before .before .before .before .search .bracket) (c .before .before .before .before .before .before .before .search .x) (finite (c .before .before .before .before)) (far (c .before .before)) (c .before .before .before .before .before .before .before .before .before .args .limit - 1 - c .before .before .before .before .before .before .before .search .count) (omega arith))
     ∙ c .before .before .before .before .before .before .before .search .inv .1
 
-next-requires : tie.Need-next-requires Inv-search μ-search
-next-requires c κs = search needs
-
 -- the next guess, or none
 next : (c : tie.After-next Inv-search μ-search) → nextGuess (c .before .before .before .before .before .before .before .before .search .bracket) (pointAt (timeAt (c .before .before .before .before .before .before .before .before .before .before .args .o)) (c .before .before .before .before .before .before .before .before .search .x)) (c .before .before .before .before .before .before .before .before .before .before .args .o .t) ≡ said (c .next .result)
 next c = sym (c .next .ensures ∙ ap (λ (z : Float). nextGuess (c .before .before .before .before .before .before .before .before .search .bracket) (record { x = c .before .before .before .before .before .before .before .before .search .x; time = z }) (c .before .before .before .before .before .before .before .before .before .before .args .o .t)) (c .before .before .before .before .before .before .before .time-at .ensures))
-
-enum-known-next : tie.Need-enum-known-next Inv-search μ-search
-enum-known-next c = search needs
-
-enum-told : tie.Need-enum-told Inv-search μ-search
-enum-told c = search needs
 
 returns-4 : tie.Need-returns-4 Inv-search μ-search
 returns-4 c =
@@ -103,4 +79,4 @@ search-again c =
     )
 
 pub hunt-spec : {M : Type 1} → statement M
-hunt-spec = tie.close (tie.spec Inv-search μ-search first-requires search-holds add-count time-at-requires finite-requires near-requires narrowed-requires next-requires enum-known-next enum-told search-less search-again returns returns-2 returns-3 returns-4)
+hunt-spec = tie.close (tie.spec Inv-search μ-search (λ c κs. search needs) search-holds add-count (λ c κs. search needs) (λ c κs. search needs) (λ c κs. search needs) (λ c κs. search needs) (λ c κs. search needs) (λ c. search needs) (λ c. search needs) search-less search-again returns returns-2 returns-3 returns-4)

@@ -9,24 +9,12 @@ use Rattle.kepler.specs.Kepler.{outcomeOf, foundIn, afterEntry, keplerOf
 use Rattle.kepler.proofs.kepler.Statement.{statement}
 use Rattle.kepler.proofs.kepler.Tie as tie
 
-entry-requires : tie.Need-entry-requires
-entry-requires c κs = search needs
-
-enum-known-o : tie.Need-enum-known-o
-enum-known-o c = search needs
-
 -- the problem passed the entry tests
 passed : (c : tie.After-o) → entryOf (c .before .before .before .args .p) ≡ pass (c .o .given .0 .0, c .o .given .0 .1 .0)
 passed c = sym (c .before .before .entry .ensures) ∙ ap passedStart (c .o .given .1)
 
 hunt-requires : tie.Need-hunt-requires
 hunt-requires c κs = entered (c .before .before .before .before .args .p) (c .before .o .given .0 .0) (c .before .o .given .0 .1 .0) (passed (c .before)) .least
-
-settled-requires : tie.Need-settled-requires
-settled-requires c κs = search needs
-
-enum-known-why : tie.Need-enum-known-why
-enum-known-why c = search needs
 
 returns : tie.Need-returns
 unfolding foundIn keplerOf
@@ -37,4 +25,4 @@ unfolding keplerOf
 returns-2 c = sym (ap (afterEntry (c .before .before .before .before .args .p .limit)) (sym (c .before .before .before .entry .ensures) ∙ ap passedStart (c .before .why .given .1)))
 
 pub kepler-spec : {M : Type 1} → statement M
-kepler-spec = tie.close (tie.spec entry-requires enum-known-o hunt-requires settled-requires enum-known-why returns returns-2)
+kepler-spec = tie.close (tie.spec (λ c κs. search needs) (λ c. search needs) hunt-requires (λ c κs. search needs) (λ c. search needs) returns returns-2)

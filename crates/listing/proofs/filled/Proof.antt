@@ -13,20 +13,11 @@ use Rattle.listing.proofs.filled.Tie as tie
 counts-on : (n : ℕ) (front rest : List ℕ) → n ≤ length front → Counts n (front ++ rest)
 counts-on n front rest h = let l : n ≤ length (front ++ rest) = rw (length-append front rest) (omega arith) in (l, sym (length-take-le n (front ++ rest) l))
 
-slice-relend-prefix-read-full : tie.Need-slice-relend-prefix-read-full
-slice-relend-prefix-read-full c = search needs
-
 slice-aggregate-read-full : tie.Need-slice-aggregate-read-full
 slice-aggregate-read-full c = sym (length-take-le (c .before .before .args .size) (c .before .before .args .space .now) (omega arith))
-
-read-full-requires : tie.Need-read-full-requires
-read-full-requires c κs = search needs
-
-same-length : tie.Need-same-length
-same-length c = search needs
 
 returns : tie.Need-returns
 returns c = counts-on (c .before .before .read-full .result) (c .before .before .read-full .last .1 .0) (drop (c .before .before .before .before .before .args .size) (c .before .before .before .before .before .args .space .now)) (c .before .before .read-full .ensures .0)
 
 pub filled-spec : {M : Type 1} → statement M
-filled-spec = tie.close (tie.spec slice-relend-prefix-read-full slice-aggregate-read-full read-full-requires same-length returns)
+filled-spec = tie.close (tie.spec (λ c. search needs) slice-aggregate-read-full (λ c κs. search needs) (λ c. search needs) returns)

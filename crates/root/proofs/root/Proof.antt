@@ -17,9 +17,6 @@ use Rattle.root.proofs.Cases.{refuses-not-finite, refuses-below-zero, k
 use Rattle.root.proofs.root.Statement.{statement}
 use Rattle.root.proofs.root.Tie as tie
 
-finite-requires : tie.Need-finite-requires
-finite-requires c κs = search needs
-
 returns : tie.Need-returns
 returns c = sym (refuses-not-finite (c .before .before .args .x) (sym (c .before .finite .ensures) ∙ not-true (c .before .finite .result) (c .if1 .taken)))
 
@@ -62,4 +59,4 @@ returns-4 c =
     ∙ sym (finds-root x (finite (c .before .before .before)) (c .before .before .if2 .left) (c .before .if3 .left))
 
 pub root-spec : {M : Type 1} → statement M
-root-spec = tie.close (tie.spec finite-requires returns returns-2 returns-3 float-to-bits-root-word root-word-requires float-from-bits-t8 returns-4)
+root-spec = tie.close (tie.spec (λ c κs. search needs) returns returns-2 returns-3 float-to-bits-root-word root-word-requires float-from-bits-t8 returns-4)

@@ -6,29 +6,17 @@ use Rattle.search.specs.Search.{inside}
 use Rattle.search.proofs.chosen.Statement.{statement}
 use Rattle.search.proofs.chosen.Tie as tie
 
-strictly-requires : tie.Need-strictly-requires
-strictly-requires c κs = search needs
-
 returns : tie.Need-returns
 returns c = rw (sym (c .before .strictly .ensures) ∙ c .if1 .taken) refl
 
 outside : (c : tie.Else1) → inside (c .before .before .args .new) (c .before .before .args .extrapolated) ≡ false
 outside c = sym (c .before .strictly .ensures) ∙ c .if1 .left
 
-strictly-requires-2 : tie.Need-strictly-requires-2
-strictly-requires-2 c κs = search needs
-
 returns-2 : tie.Need-returns-2
 returns-2 c = rw (outside (c .before .before), sym (c .before .strictly2 .ensures) ∙ c .if2 .taken) refl
 
 outside-2 : (c : tie.Else2) → inside (c .before .before .before .before .args .new) (c .before .before .before .before .args .interpolated) ≡ false
 outside-2 c = sym (c .before .strictly2 .ensures) ∙ c .if2 .left
-
-middle-requires : tie.Need-middle-requires
-middle-requires c κs = search needs
-
-strictly-requires-3 : tie.Need-strictly-requires-3
-strictly-requires-3 c κs = search needs
 
 returns-3 : tie.Need-returns-3
 returns-3 c = rw (outside (c .before .before .before .before .before), outside-2 (c .before .before .before), ← c .before .before .middle .ensures, sym (c .before .strictly3 .ensures) ∙ c .if3 .taken) refl
@@ -37,4 +25,4 @@ returns-4 : tie.Need-returns-4
 returns-4 c = rw (outside (c .before .before .before .before .before), outside-2 (c .before .before .before), ← c .before .before .middle .ensures, sym (c .before .strictly3 .ensures) ∙ c .if3 .left) refl
 
 pub chosen-spec : {M : Type 1} → statement M
-chosen-spec = tie.close (tie.spec strictly-requires returns strictly-requires-2 returns-2 middle-requires strictly-requires-3 returns-3 returns-4)
+chosen-spec = tie.close (tie.spec (λ c κs. search needs) returns (λ c κs. search needs) returns-2 (λ c κs. search needs) (λ c κs. search needs) returns-3 returns-4)

@@ -5,9 +5,6 @@ use Rattle.search.specs.Search.{firstGuess}
 use Rattle.search.proofs.first.Statement.{statement}
 use Rattle.search.proofs.first.Tie as tie
 
-middle-requires : tie.Need-middle-requires
-middle-requires c κs = search needs
-
 returns : tie.Need-returns
 unfolding firstGuess
 returns c = rw (c .if1 .taken) refl
@@ -17,4 +14,4 @@ unfolding firstGuess
 returns-2 c = rw (c .before .if1 .left) (c .middle .ensures)
 
 pub first-spec : {M : Type 1} → statement M
-first-spec = tie.close (tie.spec middle-requires returns returns-2)
+first-spec = tie.close (tie.spec (λ c κs. search needs) returns returns-2)

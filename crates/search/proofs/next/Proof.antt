@@ -5,21 +5,6 @@ use Rattle.search.specs.Search.{nextGuess}
 use Rattle.search.proofs.next.Statement.{statement}
 use Rattle.search.proofs.next.Tie as tie
 
-narrowed-requires : tie.Need-narrowed-requires
-narrowed-requires c κs = search needs
-
-line-requires : tie.Need-line-requires
-line-requires c κs = search needs
-
-line-requires-2 : tie.Need-line-requires-2
-line-requires-2 c κs = search needs
-
-chosen-requires : tie.Need-chosen-requires
-chosen-requires c κs = search needs
-
-chosen-requires-2 : tie.Need-chosen-requires-2
-chosen-requires-2 c κs = search needs
-
 returns : tie.Need-returns
 unfolding nextGuess
 returns c = c .chosen .ensures ∙ rw (c .before .before .before .before .before .narrowed .ensures, c .before .before .before .before .line .ensures, c .before .before .before .line2 .ensures, c .before .if1 .taken) refl
@@ -29,4 +14,4 @@ unfolding nextGuess
 returns-2 c = c .chosen2 .ensures ∙ rw (c .before .before .before .before .before .narrowed .ensures, c .before .before .before .before .line .ensures, c .before .before .before .line2 .ensures, c .before .if1 .left) refl
 
 pub next-spec : {M : Type 1} → statement M
-next-spec = tie.close (tie.spec narrowed-requires line-requires line-requires-2 chosen-requires chosen-requires-2 returns returns-2)
+next-spec = tie.close (tie.spec (λ c κs. search needs) (λ c κs. search needs) (λ c κs. search needs) (λ c κs. search needs) (λ c κs. search needs) returns returns-2)

@@ -12,12 +12,9 @@ returns : tie.Need-returns
 unfolding guard reachedState
 returns c = rw (not-true (le leastDen (denOf (c .before .args .o .s) (c .before .args .o .p) (c .before .args .k) (c .before .args .sh) (c .before .args .ch))) (c .if1 .taken)) refl
 
-arrive-requires : tie.Need-arrive-requires
-arrive-requires c κs = search needs
-
 returns-2 : tie.Need-returns-2
 unfolding guard reachedState
 returns-2 c = rw (not-false (le leastDen (denOf (c .before .before .args .o .s) (c .before .before .args .o .p) (c .before .before .args .k) (c .before .before .args .sh) (c .before .before .args .ch))) (c .before .if1 .left)) (c .arrive .ensures)
 
 pub reached-spec : {M : Type 1} → statement M
-reached-spec = tie.close (tie.spec returns arrive-requires returns-2)
+reached-spec = tie.close (tie.spec returns (λ c κs. search needs) returns-2)

@@ -7,21 +7,6 @@ use Rattle.theta.specs.Theta.{thetaOf}
 use Rattle.theta.proofs.theta.Statement.{statement}
 use Rattle.theta.proofs.theta.Tie as tie
 
-angle-entry-requires : tie.Need-angle-entry-requires
-angle-entry-requires c κs = search needs
-
-enum-known-o : tie.Need-enum-known-o
-enum-known-o c = search needs
-
-turned-requires : tie.Need-turned-requires
-turned-requires c κs = search needs
-
-outcome-of-requires : tie.Need-outcome-of-requires
-outcome-of-requires c κs = search needs
-
-enum-known-why : tie.Need-enum-known-why
-enum-known-why c = search needs
-
 returns : tie.Need-returns
 unfolding onward thetaOf
 returns c = c .outcome-of .ensures ∙ rw (c .before .turned .ensures, sym (c .before .before .before .before .before .angle-entry .ensures) ∙ ap conic.passedScaled (c .before .before .before .o .given .1)) refl
@@ -31,4 +16,4 @@ unfolding onward thetaOf
 returns-2 c = rw (sym (c .before .before .before .angle-entry .ensures) ∙ ap conic.passedScaled (c .before .why .given .1)) refl
 
 pub theta-spec : {M : Type 1} → statement M
-theta-spec = tie.close (tie.spec angle-entry-requires enum-known-o turned-requires outcome-of-requires enum-known-why returns returns-2)
+theta-spec = tie.close (tie.spec (λ c κs. search needs) (λ c. search needs) (λ c κs. search needs) (λ c κs. search needs) (λ c. search needs) returns returns-2)

@@ -7,21 +7,6 @@ use Rattle.theta.specs.Theta.{turnedState}
 use Rattle.theta.proofs.turned.Statement.{statement}
 use Rattle.theta.proofs.turned.Tie as tie
 
-universal-requires : tie.Need-universal-requires
-universal-requires c κs = search needs
-
-root-requires : tie.Need-root-requires
-root-requires c κs = search needs
-
-enum-known-k : tie.Need-enum-known-k
-enum-known-k c = search needs
-
-reached-requires : tie.Need-reached-requires
-reached-requires c κs = search needs
-
-enum-told : tie.Need-enum-told
-enum-told c = search needs
-
 returns : tie.Need-returns
 unfolding onward turnedState
 returns c = c .reached .ensures ∙ sym (rw (root-given (c .before .before .before .before .before .before .args .o .p) (c .before .before .k .given .0 .0) (c .before .before .before .before .root .result) (c .before .before .before .before .root .ensures) (c .before .before .k .given .1), ← c .before .before .before .before .before .universal .ensures) refl)
@@ -31,4 +16,4 @@ unfolding onward turnedState
 returns-2 c = rw (root-refused (c .before .before .before .before .args .o .p) (c .enum-told .given .0 .0) (c .before .before .root .result) (c .before .before .root .ensures) (c .enum-told .given .1)) refl
 
 pub turned-spec : {M : Type 1} → statement M
-turned-spec = tie.close (tie.spec universal-requires root-requires enum-known-k reached-requires enum-told returns returns-2)
+turned-spec = tie.close (tie.spec (λ c κs. search needs) (λ c κs. search needs) (λ c. search needs) (λ c κs. search needs) (λ c. search needs) returns returns-2)

@@ -10,9 +10,6 @@ use Rattle.conic.specs.Entry.{givenFinite, largestAngle, angleEntryOf}
 use Rattle.conic.proofs.entry.angle_entry.Statement.{statement}
 use Rattle.conic.proofs.entry.angle_entry.Tie as tie
 
-given-requires : tie.Need-given-requires
-given-requires c κs = search needs
-
 returns : tie.Need-returns
 unfolding guard angleEntryOf
 returns c = rw (sym (c .before .given .ensures) ∙ not-true (c .before .given .result) (c .if1 .taken)) refl
@@ -25,19 +22,13 @@ returns-2 : tie.Need-returns-2
 unfolding guard angleEntryOf
 returns-2 c = rw (good (c .before), not-true (lt nought (c .before .before .before .args .mu)) (c .if2 .taken)) refl
 
-absolute-requires : tie.Need-absolute-requires
-absolute-requires c κs = search needs
-
 returns-3 : tie.Need-returns-3
 unfolding guard angleEntryOf
 returns-3 c = rw (good (c .before .before .before), not-false (lt nought (c .before .before .before .before .before .args .mu)) (c .before .before .if2 .left), ← c .before .absolute .ensures, not-true (le (c .before .absolute .result) largestAngle) (c .if3 .taken)) refl
-
-scale-requires : tie.Need-scale-requires
-scale-requires c κs = search needs
 
 returns-4 : tie.Need-returns-4
 unfolding guard angleEntryOf
 returns-4 c = c .scale .ensures ∙ sym (rw (good (c .before .before .before .before), not-false (lt nought (c .before .before .before .before .before .before .args .mu)) (c .before .before .before .if2 .left), ← c .before .before .absolute .ensures, not-false (le (c .before .before .absolute .result) largestAngle) (c .before .if3 .left)) refl)
 
 pub angle-entry-spec : {M : Type 1} → statement M
-angle-entry-spec = tie.close (tie.spec given-requires returns returns-2 absolute-requires returns-3 scale-requires returns-4)
+angle-entry-spec = tie.close (tie.spec (λ c κs. search needs) returns returns-2 (λ c κs. search needs) returns-3 (λ c κs. search needs) returns-4)

@@ -9,12 +9,6 @@ use Rattle.conic.specs.Entry.{bracketedBy}
 use Rattle.conic.proofs.entry.bracketed.Statement.{statement}
 use Rattle.conic.proofs.entry.bracketed.Tie as tie
 
-time-at-requires : tie.Need-time-at-requires
-time-at-requires c κs = search needs
-
-finite-requires : tie.Need-finite-requires
-finite-requires c κs = search needs
-
 returns : tie.Need-returns
 unfolding guard bracketedBy
 returns c = rw (← c .before .before .time-at .ensures, sym (c .before .finite .ensures) ∙ not-true (c .before .finite .result) (c .if1 .taken)) refl
@@ -40,4 +34,4 @@ unfolding guard bracketedBy
 returns-5 c = rw (← c .before .before .before .before .time-at .ensures, good (c .before .before), c .before .if2 .left, c .if4 .left) refl
 
 pub bracketed-spec : {M : Type 1} → statement M
-bracketed-spec = tie.close (tie.spec time-at-requires finite-requires returns returns-2 returns-3 returns-4 returns-5)
+bracketed-spec = tie.close (tie.spec (λ c κs. search needs) (λ c κs. search needs) returns returns-2 returns-3 returns-4 returns-5)

@@ -12,9 +12,6 @@ use Rattle.conic.specs.Entry.{givenFinite, entryOf}
 use Rattle.conic.proofs.entry.entry.Statement.{statement}
 use Rattle.conic.proofs.entry.entry.Tie as tie
 
-given-requires : tie.Need-given-requires
-given-requires c κs = search needs
-
 returns : tie.Need-returns
 unfolding guard entryOf
 returns c = rw (sym (c .before .given .ensures) ∙ not-true (c .before .given .result) (c .if1 .taken)) refl
@@ -31,18 +28,6 @@ returns-3 : tie.Need-returns-3
 unfolding guard entryOf
 returns-3 c = rw (good (c .before .before .before), not-false (lt nought (c .before .before .before .before .before .before .before .args .p .mu)) (c .before .if2 .left), not-true (leb 1 (c .before .before .before .before .before .before .before .args .p .limit) && leb (c .before .before .before .before .before .before .before .args .p .limit) 100) (c .if3 .taken)) refl
 
-scale-requires : tie.Need-scale-requires
-scale-requires c κs = search needs
-
-enum-known-o : tie.Need-enum-known-o
-enum-known-o c = search needs
-
-started-requires : tie.Need-started-requires
-started-requires c κs = search needs
-
-enum-known-why : tie.Need-enum-known-why
-enum-known-why c = search needs
-
 returns-4 : tie.Need-returns-4
 unfolding guard onward entryOf
 returns-4 c = c .started .ensures ∙ sym (rw (good (c .before .before .before .before .before .before .before .before), not-false (lt nought (c .before .before .before .before .before .before .before .before .before .before .before .before .args .p .mu)) (c .before .before .before .before .before .before .if2 .left), not-false (leb 1 (c .before .before .before .before .before .before .before .before .before .before .before .before .args .p .limit) && leb (c .before .before .before .before .before .before .before .before .before .before .before .before .args .p .limit) 100) (c .before .before .before .before .before .if3 .left), sym (c .before .before .before .before .scale .ensures) ∙ ap passedScaled (c .before .before .o .given .1)) refl)
@@ -52,4 +37,4 @@ unfolding guard onward entryOf
 returns-5 c = rw (good (c .before .before .before .before .before .before .before), not-false (lt nought (c .before .before .before .before .before .before .before .before .before .before .before .args .p .mu)) (c .before .before .before .before .before .if2 .left), not-false (leb 1 (c .before .before .before .before .before .before .before .before .before .before .before .args .p .limit) && leb (c .before .before .before .before .before .before .before .before .before .before .before .args .p .limit) 100) (c .before .before .before .before .if3 .left), sym (c .before .before .before .scale .ensures) ∙ ap passedScaled (c .before .why .given .1)) refl
 
 pub entry-spec : {M : Type 1} → statement M
-entry-spec = tie.close (tie.spec given-requires returns returns-2 returns-3 scale-requires enum-known-o started-requires enum-known-why returns-4 returns-5)
+entry-spec = tie.close (tie.spec (λ c κs. search needs) returns returns-2 returns-3 (λ c κs. search needs) (λ c. search needs) (λ c κs. search needs) (λ c. search needs) returns-4 returns-5)

@@ -7,21 +7,9 @@ use Rattle.conic.proofs.Rows.{root-given, root-refused}
 use Rattle.conic.proofs.entry.far_end.Statement.{statement}
 use Rattle.conic.proofs.entry.far_end.Tie as tie
 
-absolute-requires : tie.Need-absolute-requires
-absolute-requires c κs = search needs
-
 returns : tie.Need-returns
 unfolding farEndOf
 returns c = rw (← c .before .absolute .ensures, c .if1 .taken) refl
-
-root-requires : tie.Need-root-requires
-root-requires c κs = search needs
-
-enum-known-k : tie.Need-enum-known-k
-enum-known-k c = search needs
-
-enum-told : tie.Need-enum-told
-enum-told c = search needs
 
 returns-2 : tie.Need-returns-2
 unfolding onward farEndOf
@@ -32,4 +20,4 @@ unfolding onward farEndOf
 returns-3 c = rw (← c .before .before .before .before .before .absolute .ensures, c .before .before .before .before .if1 .left, root-given (c .before .before .before .before .before .absolute .result) (c .before .k .given .0 .0) (c .before .before .before .root .result) (c .before .before .before .root .ensures) (c .before .k .given .1)) refl
 
 pub far-end-spec : {M : Type 1} → statement M
-far-end-spec = tie.close (tie.spec absolute-requires returns root-requires enum-known-k enum-told returns-2 returns-3)
+far-end-spec = tie.close (tie.spec (λ c κs. search needs) returns (λ c κs. search needs) (λ c. search needs) (λ c. search needs) returns-2 returns-3)

@@ -9,12 +9,6 @@ use Rattle.conic.proofs.Rows.{root-given, root-refused}
 use Rattle.conic.proofs.entry.radius.Statement.{statement}
 use Rattle.conic.proofs.entry.radius.Tie as tie
 
-product-requires : tie.Need-product-requires
-product-requires c κs = search needs
-
-usable-requires : tie.Need-usable-requires
-usable-requires c κs = search needs
-
 returns : tie.Need-returns
 unfolding guard radiusOf
 returns c = rw (← c .before .before .product .ensures, sym (c .before .usable .ensures) ∙ not-true (c .before .usable .result) (c .if1 .taken)) refl
@@ -22,15 +16,6 @@ returns c = rw (← c .before .before .product .ensures, sym (c .before .usable 
 -- past the first test r·r is usable
 good : (c : tie.Else1) → isUsable (c .before .before .product .result) ≡ true
 good c = sym (c .before .usable .ensures) ∙ not-false (c .before .usable .result) (c .if1 .left)
-
-root-requires : tie.Need-root-requires
-root-requires c κs = search needs
-
-enum-known-r0 : tie.Need-enum-known-r0
-enum-known-r0 c = search needs
-
-enum-told : tie.Need-enum-told
-enum-told c = search needs
 
 returns-2 : tie.Need-returns-2
 unfolding guard onward radiusOf
@@ -41,9 +26,6 @@ returns-2 c =
       root-refused (c .before .before .before .before .before .product .result) (c .enum-told .given .0 .0) (c .before .before .root .result) (c .before .before .root .ensures) (c .enum-told .given .1),
     )
     refl
-
-usable-requires-2 : tie.Need-usable-requires-2
-usable-requires-2 c κs = search needs
 
 -- past the root, r0 is what it gave
 given : (c : tie.After-usable2) → rooted (c .before .before .before .before .before .before .before .product .result) ≡ pass (c .before .before .r0 .given .0 .0)
@@ -74,4 +56,4 @@ returns-4 c =
     refl
 
 pub radius-spec : {M : Type 1} → statement M
-radius-spec = tie.close (tie.spec product-requires usable-requires returns root-requires enum-known-r0 enum-told returns-2 usable-requires-2 returns-3 returns-4)
+radius-spec = tie.close (tie.spec (λ c κs. search needs) (λ c κs. search needs) returns (λ c κs. search needs) (λ c. search needs) (λ c. search needs) returns-2 (λ c κs. search needs) returns-3 returns-4)

@@ -7,27 +7,6 @@ use Rattle.conic.specs.Entry.{scaledOf}
 use Rattle.conic.proofs.entry.scale.Statement.{statement}
 use Rattle.conic.proofs.entry.scale.Tie as tie
 
-radius-requires : tie.Need-radius-requires
-radius-requires c κs = search needs
-
-enum-known-why : tie.Need-enum-known-why
-enum-known-why c = search needs
-
-enum-known-r0 : tie.Need-enum-known-r0
-enum-known-r0 c = search needs
-
-time-unit-requires : tie.Need-time-unit-requires
-time-unit-requires c κs = search needs
-
-enum-known-why-2 : tie.Need-enum-known-why-2
-enum-known-why-2 c = search needs
-
-enum-known-f1 : tie.Need-enum-known-f1
-enum-known-f1 c = search needs
-
-scale-by-requires : tie.Need-scale-by-requires
-scale-by-requires c κs = search needs
-
 returns : tie.Need-returns
 unfolding onward scaledOf
 returns c = rw (sym (c .before .before .before .radius .ensures) ∙ ap passedNumber (c .before .why .given .1)) refl
@@ -41,4 +20,4 @@ unfolding onward scaledOf
 returns-3 c = c .scale-by .ensures ∙ sym (rw (sym (c .before .before .before .before .before .before .before .before .radius .ensures) ∙ ap passedNumber (c .before .before .before .before .before .before .r0 .given .1), sym (c .before .before .before .before .time-unit .ensures) ∙ ap passedUnit (c .before .before .f1 .given .1)) refl)
 
 pub scale-spec : {M : Type 1} → statement M
-scale-spec = tie.close (tie.spec radius-requires enum-known-why enum-known-r0 time-unit-requires enum-known-why-2 enum-known-f1 scale-by-requires returns returns-2 returns-3)
+scale-spec = tie.close (tie.spec (λ c κs. search needs) (λ c. search needs) (λ c. search needs) (λ c κs. search needs) (λ c. search needs) (λ c. search needs) (λ c κs. search needs) returns returns-2 returns-3)

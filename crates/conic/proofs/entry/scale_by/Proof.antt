@@ -8,21 +8,6 @@ use Rattle.conic.specs.Entry.{scaledBy}
 use Rattle.conic.proofs.entry.scale_by.Statement.{statement}
 use Rattle.conic.proofs.entry.scale_by.Tie as tie
 
-divided-requires : tie.Need-divided-requires
-divided-requires c κs = search needs
-
-scaled-requires : tie.Need-scaled-requires
-scaled-requires c κs = search needs
-
-product-requires : tie.Need-product-requires
-product-requires c κs = search needs
-
-product-requires-2 : tie.Need-product-requires-2
-product-requires-2 c κs = search needs
-
-all-finite-requires : tie.Need-all-finite-requires
-all-finite-requires c κs = search needs
-
 -- w is finite as the test found it
 as-found : (c : tie.After-all-finite) → allFinite (times (c .before .before .before .before .before .args .f1) (c .before .before .before .before .before .args .v)) ≡ c .all-finite .result
 as-found c = sym (c .all-finite .ensures ∙ ap allFinite (c .before .before .before .scaled .ensures))
@@ -30,9 +15,6 @@ as-found c = sym (c .all-finite .ensures ∙ ap allFinite (c .before .before .be
 returns : tie.Need-returns
 unfolding guard scaledBy
 returns c = rw (as-found (c .before) ∙ not-true (c .before .all-finite .result) (c .if1 .taken)) refl
-
-tested-requires : tie.Need-tested-requires
-tested-requires c κs = search needs
 
 returns-2 : tie.Need-returns-2
 unfolding guard scaledBy
@@ -48,4 +30,4 @@ returns-2 c =
     refl
 
 pub scale-by-spec : {M : Type 1} → statement M
-scale-by-spec = tie.close (tie.spec divided-requires scaled-requires product-requires product-requires-2 all-finite-requires returns tested-requires returns-2)
+scale-by-spec = tie.close (tie.spec (λ c κs. search needs) (λ c κs. search needs) (λ c κs. search needs) (λ c κs. search needs) (λ c κs. search needs) returns (λ c κs. search needs) returns-2)

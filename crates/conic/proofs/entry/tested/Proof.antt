@@ -9,21 +9,6 @@ use Rattle.conic.specs.Entry.{testedBy}
 use Rattle.conic.proofs.entry.tested.Statement.{statement}
 use Rattle.conic.proofs.entry.tested.Tie as tie
 
-finite-requires : tie.Need-finite-requires
-finite-requires c κs = search needs
-
-finite-requires-2 : tie.Need-finite-requires-2
-finite-requires-2 c κs = search needs
-
-finite-requires-3 : tie.Need-finite-requires-3
-finite-requires-3 c κs = search needs
-
-finite-requires-4 : tie.Need-finite-requires-4
-finite-requires-4 c κs = search needs
-
-finite-requires-5 : tie.Need-finite-requires-5
-finite-requires-5 c κs = search needs
-
 -- the five tests, as they were found and as the definition has them
 found : (c : tie.After-finite5) → Bool
 found c = c .before .before .before .before .finite .result && c .before .before .before .finite2 .result && c .before .before .finite3 .result && c .before .finite4 .result && c .finite5 .result
@@ -45,4 +30,4 @@ unfolding guard found testedBy
 returns-3 c = rw (← as-defined (c .before .before .before), not-false (found (c .before .before .before)) (c .before .before .if1 .left), c .if2 .left) refl
 
 pub tested-spec : {M : Type 1} → statement M
-tested-spec = tie.close (tie.spec finite-requires finite-requires-2 finite-requires-3 finite-requires-4 finite-requires-5 returns returns-2 returns-3)
+tested-spec = tie.close (tie.spec (λ c κs. search needs) (λ c κs. search needs) (λ c κs. search needs) (λ c κs. search needs) (λ c κs. search needs) returns returns-2 returns-3)

@@ -10,9 +10,6 @@ use Rattle.conic.proofs.Rows.{root-given, root-refused}
 use Rattle.conic.proofs.entry.time_unit.Statement.{statement}
 use Rattle.conic.proofs.entry.time_unit.Tie as tie
 
-usable-requires : tie.Need-usable-requires
-usable-requires c κs = search needs
-
 returns : tie.Need-returns
 unfolding guard unitOf
 returns c = rw (sym (c .before .usable .ensures) ∙ not-true (c .before .usable .result) (c .if1 .taken)) refl
@@ -20,15 +17,6 @@ returns c = rw (sym (c .before .usable .ensures) ∙ not-true (c .before .usable
 -- past the first test r0/mu is usable
 good : (c : tie.Else1) → isUsable (c .before .before .args .r0 ⊘ c .before .before .args .mu) ≡ true
 good c = sym (c .before .usable .ensures) ∙ not-false (c .before .usable .result) (c .if1 .left)
-
-root-requires : tie.Need-root-requires
-root-requires c κs = search needs
-
-enum-known-f1 : tie.Need-enum-known-f1
-enum-known-f1 c = search needs
-
-enum-told : tie.Need-enum-told
-enum-told c = search needs
 
 returns-2 : tie.Need-returns-2
 unfolding guard onward unitOf
@@ -39,12 +27,6 @@ returns-2 c =
       root-refused quotient (c .enum-told .given .0 .0) (c .before .before .root .result) (c .before .before .root .ensures) (c .enum-told .given .1),
     )
     refl
-
-usable-requires-2 : tie.Need-usable-requires-2
-usable-requires-2 c κs = search needs
-
-usable-requires-3 : tie.Need-usable-requires-3
-usable-requires-3 c κs = search needs
 
 -- past the root, f1 is what it gave
 given : (c : tie.After-usable3) → rooted (c .before .before .before .before .before .before .before .before .args .r0 ⊘ c .before .before .before .before .before .before .before .before .args .mu) ≡ pass (c .before .before .before .f1 .given .0 .0)
@@ -77,4 +59,4 @@ returns-4 c =
     refl
 
 pub time-unit-spec : {M : Type 1} → statement M
-time-unit-spec = tie.close (tie.spec usable-requires returns root-requires enum-known-f1 enum-told returns-2 usable-requires-2 usable-requires-3 returns-3 returns-4)
+time-unit-spec = tie.close (tie.spec (λ c κs. search needs) returns (λ c κs. search needs) (λ c. search needs) (λ c. search needs) returns-2 (λ c κs. search needs) (λ c κs. search needs) returns-3 returns-4)

@@ -4,11 +4,8 @@ use borrow.Author.Needs.{needs}
 use Rattle.conic.proofs.entry.usable.Statement.{statement}
 use Rattle.conic.proofs.entry.usable.Tie as tie
 
-finite-requires : tie.Need-finite-requires
-finite-requires c κs = search needs
-
 returns : tie.Need-returns
 returns c = rw (c .finite .ensures) refl
 
 pub usable-spec : {M : Type 1} → statement M
-usable-spec = tie.close (tie.spec finite-requires returns)
+usable-spec = tie.close (tie.spec (λ c κs. search needs) returns)

@@ -5,15 +5,9 @@ use Rattle.conic.specs.Functions.{timeAt}
 use Rattle.conic.proofs.functions.time_at.Statement.{statement}
 use Rattle.conic.proofs.functions.time_at.Tie as tie
 
-universal-requires : tie.Need-universal-requires
-universal-requires c κs = search needs
-
-time-requires : tie.Need-time-requires
-time-requires c κs = search needs
-
 returns : tie.Need-returns
 unfolding timeAt
 returns c = c .time .ensures ∙ rw (c .before .universal .ensures) refl
 
 pub time-at-spec : {M : Type 1} → statement M
-time-at-spec = tie.close (tie.spec universal-requires time-requires returns)
+time-at-spec = tie.close (tie.spec (λ c κs. search needs) (λ c κs. search needs) returns)

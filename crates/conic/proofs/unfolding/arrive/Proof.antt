@@ -13,15 +13,6 @@ returns : tie.Need-returns
 unfolding guard arrivalOf
 returns c = rw (not-true (le leastRatio (c .before .args .ratio)) (c .if1 .taken)) refl
 
-unfolded-state-requires : tie.Need-unfolded-state-requires
-unfolded-state-requires c κs = search needs
-
-all-finite-requires : tie.Need-all-finite-requires
-all-finite-requires c κs = search needs
-
-all-finite-requires-2 : tie.Need-all-finite-requires-2
-all-finite-requires-2 c κs = search needs
-
 returns-2 : tie.Need-returns-2
 unfolding guard arrivalOf
 returns-2 c =
@@ -47,4 +38,4 @@ returns-3 c =
     refl
 
 pub arrive-spec : {M : Type 1} → statement M
-arrive-spec = tie.close (tie.spec returns unfolded-state-requires all-finite-requires all-finite-requires-2 returns-2 returns-3)
+arrive-spec = tie.close (tie.spec returns (λ c κs. search needs) (λ c κs. search needs) (λ c κs. search needs) returns-2 returns-3)

@@ -5,12 +5,6 @@ use Rattle.conic.specs.Said.{arrived, withState}
 use Rattle.conic.proofs.unfolding.outcome_of.Statement.{statement}
 use Rattle.conic.proofs.unfolding.outcome_of.Tie as tie
 
-enum-known-arrival : tie.Need-enum-known-arrival
-enum-known-arrival c = search needs
-
-enum-known-arrival-2 : tie.Need-enum-known-arrival-2
-enum-known-arrival-2 c = search needs
-
 returns : tie.Need-returns
 returns c = sym (ap (λ a. withState (c .before .before .before .args .x) (c .before .before .before .args .count) (arrived a)) (c .before .arrival .given .1))
 
@@ -18,4 +12,4 @@ returns-2 : tie.Need-returns-2
 returns-2 c = sym (ap (λ a. withState (c .before .before .before .args .x) (c .before .before .before .args .count) (arrived a)) (c .before .arrival2 .given .1))
 
 pub outcome-of-spec : {M : Type 1} → statement M
-outcome-of-spec = tie.close (tie.spec enum-known-arrival enum-known-arrival-2 returns returns-2)
+outcome-of-spec = tie.close (tie.spec (λ c. search needs) (λ c. search needs) returns returns-2)

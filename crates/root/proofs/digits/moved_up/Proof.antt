@@ -20,9 +20,6 @@ whole a = mod-eq-of-lt (lt-of-lt-of-le (a .most) (lit≤ tt))
 sub-up : tie.Need-sub-up
 sub-up c = omega (arith, up-of c .zeros)
 
-add-g : tie.Need-add-g
-add-g c = search needs
-
 cast-g : tie.Need-cast-g
 cast-g c = omega (arith, up-of c .within)
 
@@ -50,4 +47,4 @@ returns-2 c =
     (in-form (c .before .args .m) (c .before .args .c) _ 0 (up-of (c .before)) (c .before .pre .2) (omega arith) (omega arith))
 
 pub moved-up-spec : {M : Type 1} → statement M
-moved-up-spec = tie.close (tie.spec sub-up add-g cast-g sub-g add-h cast-v shl-v mul-t12 returns returns-2)
+moved-up-spec = tie.close (tie.spec sub-up (λ c. search needs) cast-g sub-g add-h cast-v shl-v mul-t12 returns returns-2)

@@ -7,24 +7,6 @@ use Rattle.root.proofs.Shape.{written, is-nearestRoot}
 use Rattle.root.proofs.digits.root_word.Statement.{statement}
 use Rattle.root.proofs.digits.root_word.Tie as tie
 
-form-of-requires : tie.Need-form-of-requires
-form-of-requires c κs = search needs
-
-add-result : tie.Need-add-result
-add-result c = search needs
-
-mul-result : tie.Need-mul-result
-mul-result c = search needs
-
-whole-root-requires : tie.Need-whole-root-requires
-whole-root-requires c κs = search needs
-
-add-result-2 : tie.Need-add-result-2
-add-result-2 c = search needs
-
-add-result-3 : tie.Need-add-result-3
-add-result-3 c = search needs
-
 returns : tie.Need-returns
 returns c =
     let x = ofBits binary64 (c .before .before .before .args .w) in
@@ -34,4 +16,4 @@ returns c =
     )
 
 pub root-word-spec : {M : Type 1} → statement M
-root-word-spec = tie.close (tie.spec form-of-requires add-result mul-result whole-root-requires add-result-2 add-result-3 returns)
+root-word-spec = tie.close (tie.spec (λ c κs. search needs) (λ c. search needs) (λ c. search needs) (λ c κs. search needs) (λ c. search needs) (λ c. search needs) returns)
