@@ -1,7 +1,7 @@
 -- Two answers that meet a contract coincide, for each public function that answers an enum: what is said of an answer can be undone, and the
 -- number of a reason names the reason. The contracts of the others are equations of the result itself (exact's `one-result`).
 use mathlib.Core.Path.{_≡_, refl, ap}
-use mathlib.Core.List.{List, _∷_}
+use mathlib.Core.List.{List, [], _∷_}
 use Prim.Native.Nat.{ℕ}
 use lib.ListN.{getD}
 use lib.Ieee.{Float}

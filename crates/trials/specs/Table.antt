@@ -1,6 +1,6 @@
 -- The trials that document 01 marks P ("Trials"), in its order: one table, a line a trial. Definitions only.
 use mathlib.Core.Path.{_≡_}
-use mathlib.Core.List.{List, _∷_}
+use mathlib.Core.List.{List, [], _∷_}
 use Prim.Native.Nat.{ℕ}
 use lib.Ieee.{Float, nan}
 use Rattle.exact.specs.Numbers.{numberOf, nought}

@@ -1,7 +1,7 @@
 -- Laws of `value` and `valueAt`: what a byte in front adds, how large the value of k bytes is, and that these k bytes alone make it.
 use mathlib.Core.Path.{_≡_, refl, sym, ap, _∙_}
 use mathlib.Core.Bool.{Bool, cond}
-use mathlib.Core.List.{List, _∷_}
+use mathlib.Core.List.{List, [], _∷_}
 use Prim.Native.Nat.{ℕ, zero, suc, _+_, _*_, _^_, _≤_, _<_}
 use native.Mathlib.Nat.{one-le-pow, pow-succ'}
 use native.Mathlib.Numerals.{add-one}

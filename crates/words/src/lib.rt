@@ -10,26 +10,29 @@ ghost use Rattle.words.specs.Words.{value, valueAt};
 pub fn word(s: &[u8], at: usize) -> u64
     ensures { λ r. ⌜ r ≡ valueAt 8 (now (s .entry)) at ⌝ }
 {
-    if s.len() < 8 {
-        return 0;
-    }
-    if s.len() - 8 < at {
-        return 0;
-    }
-    bytes(s, at, 8)
+    part(s, at, 8)
 }
 
 // The four bytes of s from index at on as a word, the lowest first; 0 where s ends before.
 pub fn half(s: &[u8], at: usize) -> u32
     ensures { λ r. ⌜ r ≡ valueAt 4 (now (s .entry)) at ⌝ }
 {
-    if s.len() < 4 {
+    part(s, at, 4) as u32
+}
+
+// The k bytes of s from index at on; 0 where s ends before.
+fn part(s: &[u8], at: usize, k: usize) -> u64
+    requires { ⌜ k ≤ 8 ⌝ }
+    ensures { λ r. ⌜ r ≡ valueAt k (now (s .entry)) at ⌝ }
+    ensures { λ r. ⌜ r < 256 ^ k ⌝ }
+{
+    if s.len() < k {
         return 0;
     }
-    if s.len() - 4 < at {
+    if s.len() - k < at {
         return 0;
     }
-    bytes(s, at, 4) as u32
+    bytes(s, at, k)
 }
 
 // The value of k bytes, from the highest one down.

@@ -3,7 +3,7 @@ use mathlib.Core.Path.{_≡_, refl, sym, _∙_}
 use mathlib.Core.Bool.{true, _&&_}
 use borrow.Author.Needs.{needs}
 use borrow.Author.Tests.{not-true, not-false}
-use Rattle.exact.specs.Numbers.{_⊘_}
+use Rattle.exact.specs.Numbers.{_⊗_, _⊘_}
 use Rattle.conic.specs.Tests.{pass, guard, onward}
 use Rattle.conic.specs.Entry.{isUsable, rooted, unitOf}
 use Rattle.conic.proofs.Rows.{root-given, root-refused}
@@ -34,29 +34,18 @@ given c =
     let quotient = c .before .before .before .before .before .before .before .before .args .r0 ⊘ c .before .before .before .before .before .before .before .before .args .mu in
     root-given quotient (c .before .before .before .f1 .given .0 .0) (c .before .before .before .before .before .root .result) (c .before .before .before .before .before .root .ensures) (c .before .before .before .f1 .given .1)
 
-returns-3 : tie.Need-returns-3
+-- and the row as it was found
+row : (c : tie.After-usable3) → unitOf (c .before .before .before .before .before .before .before .before .args .mu) (c .before .before .before .before .before .before .before .before .args .r0) ≡ guard (c .before .usable2 .result && c .usable3 .result) 6 (pass (c .before .before .before .f1 .given .0 .0, c .before .before .before .before .before .before .before .before .args .r0 ⊗ c .before .before .before .f1 .given .0 .0))
 unfolding guard onward unitOf
-returns-3 c =
-    rw (
-      good (c .before .before .before .before .before .before .before),
-      given (c .before),
-      ← c .before .before .usable2 .ensures,
-      ← c .before .usable3 .ensures,
-      not-true (c .before .before .usable2 .result && c .before .usable3 .result) (c .if2 .taken),
-    )
-    refl
+row c = rw (good (c .before .before .before .before .before .before), given c, ← c .before .usable2 .ensures, ← c .usable3 .ensures) refl
+
+returns-3 : tie.Need-returns-3
+unfolding guard
+returns-3 c = rw (row (c .before), not-true (c .before .before .usable2 .result && c .before .usable3 .result) (c .if2 .taken)) refl
 
 returns-4 : tie.Need-returns-4
-unfolding guard onward unitOf
-returns-4 c =
-    rw (
-      good (c .before .before .before .before .before .before .before),
-      given (c .before),
-      ← c .before .before .usable2 .ensures,
-      ← c .before .usable3 .ensures,
-      not-false (c .before .before .usable2 .result && c .before .usable3 .result) (c .if2 .left),
-    )
-    refl
+unfolding guard
+returns-4 c = rw (row (c .before), not-false (c .before .before .usable2 .result && c .before .usable3 .result) (c .if2 .left)) refl
 
 pub time-unit-spec : {M : Type 1} → statement M
 time-unit-spec = tie.close (tie.spec (λ c κs. search needs) returns (λ c κs. search needs) (λ c. search needs) (λ c. search needs) returns-2 (λ c κs. search needs) (λ c κs. search needs) returns-3 returns-4)
