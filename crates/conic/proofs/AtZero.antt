@@ -4,11 +4,11 @@ use mathlib.Core.Path.{_≡_, refl}
 use mathlib.Core.Bool.{Bool, true, false}
 use native.Mathlib.Nat.{not-le-of-lt, le-of-lt}
 use lib.Dec.{T-not, not-T}
-use lib.Ieee.{Float, binary64, round, mul, div, add, sub, neg, lt, le, eq, ofBits}
-use lib.Ieee.Bits.{is-true, is-false}
+use lib.Ieee.{Float, binary64, round, mul, div, add, sub, neg, lt, le, ofBits}
+use lib.Ieee.Bits.{is-false}
 use Rattle.exact.specs.Numbers.{_⊕_, _⊖_, _⊗_, _⊘_, nought, two, Number}
 use Rattle.exact.proofs.Basics.{passed, failed}
-use Rattle.exact.proofs.Order.{lt-place, eq-place, le-place}
+use Rattle.exact.proofs.Order.{lt-place, le-place}
 use Rattle.exact.proofs.Zero.{nought-number, zero, times-nought}
 use Rattle.conic.specs.declared.Scaled.{Scaled}
 use Rattle.conic.specs.Series.{coefficients, workedFrom, worked}
@@ -71,12 +71,6 @@ module _ (o : Scaled) (h : Number binary64 (o .s)) (k : Number binary64 (o .alph
   pub time-at-zero : timeAt o nought ≡ nought
   unfolding timeAt
   time-at-zero = simp (functions-at-zero (o .alpha) k, times-nought (o .s) h, nought-plus-zero, nought-plus-nought)
-
-  pub zero-time-number : Number binary64 (timeAt o nought)
-  zero-time-number = rw time-at-zero nought-number
-
-  pub zero-time-equal : eq (timeAt o nought) nought ≡ true
-  zero-time-equal = rw time-at-zero (is-true (eq nought nought) (eq-place binary64 nought nought nought-number nought-number .1 refl))
 
   -- a time is never on the wrong side of the time at 0: a t ≥ 0 is not below it, and another t is not above it
   module _ (t : Float) (n : Number binary64 t) where
