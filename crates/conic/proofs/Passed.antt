@@ -20,7 +20,7 @@ use Rattle.conic.specs.Tests.{Checked, pass, guard, onward}
 use Rattle.conic.specs.Vectors.{dot, allFinite, over, times}
 use Rattle.conic.specs.Functions.{timeAt}
 use Rattle.conic.specs.Unfolding.{leastRatio, unfolded, arrivalOf}
-use Rattle.conic.specs.Entry.{straight, givenFinite, radiusOf, unitOf, testedBy, scaledBy, scaledOf, farEndOf, startingBracket, bracketedBy, startOf, entryOf}
+use Rattle.conic.specs.Entry.{straight, inputsTested, radiusOf, unitOf, testedBy, scaledBy, scaledOf, farEndOf, startingBracket, bracketedBy, startOf, entryOf}
 use Rattle.conic.proofs.Rows.{pass-once, test-passed, rows-passed}
 
 -- ---- the scaled problem
@@ -100,12 +100,10 @@ bracketed-is o far e h =
 pub entered : (p : Problem) (o : Scaled) (b : Bracket) → entryOf p ≡ pass (o, b) → Entered p o b
 unfolding startOf entryOf
 entered p o b h =
-    let given = givenFinite (p .mu) (p .r) (p .v) (p .dt) in
-    let positive = lt nought (p .mu) in
     let in-range = leb 1 (p .limit) && leb (p .limit) 100 in
     let row = onward (scaledOf (p .mu) (p .r) (p .v) (p .dt)) startOf in
-    let first = test-passed given 1 (guard positive 2 (guard in-range 3 row)) h in
-    let third = test-passed in-range 3 row (test-passed positive 2 (guard in-range 3 row) (first .1) .1) in
+    let inputs = rows-passed (inputsTested (p .mu) (p .r) (p .v) (p .dt)) (λ good. guard in-range 3 row) h in
+    let third = test-passed in-range 3 row (inputs .2) in
     let range = both (leb 1 (p .limit)) (leb (p .limit) 100) .0 (third .0) in
     let S = rows-passed (scaledOf (p .mu) (p .r) (p .v) (p .dt)) startOf (third .1) in
     let e : Scaled = S .0 in

@@ -19,6 +19,13 @@ use Rattle.conic.specs.Functions.{timeAt}
 abbrev pub givenFinite : (mu : Float) (r v : Vector) (last : Float) → Bool
 givenFinite mu r v last = isFinite mu && allFinite r && allFinite v && isFinite last
 
+-- 1, then 2. "mu ≤ 0": the tests that Kepler and Theta begin with
+unfoldable pub inputsTested : (mu : Float) (r v : Vector) (last : Float) → Checked (Unit {0})
+inputsTested mu r v last =
+    guard (givenFinite mu r v last) 1
+    (guard (lt nought mu) 2
+    (pass tt))
+
 -- not "zero or not finite"
 abbrev pub isUsable : Float → Bool
 isUsable x = isFinite x && ne x nought
@@ -107,13 +114,12 @@ bracketedBy o far =
 unfoldable pub startOf : Scaled → Checked (Scaled × Bracket)
 startOf o = onward (farEndOf (o .alpha)) (λ x. bracketedBy o (cond (le nought (o .t)) x (neg x)))
 
--- Kepler: 1, then 2. "mu ≤ 0", 3. "limit not 1..100", and the tests above
+-- Kepler: 1, 2, then 3. "limit not 1..100", and the tests above
 unfoldable pub entryOf : Problem → Checked (Scaled × Bracket)
 entryOf p =
-    guard (givenFinite (p .mu) (p .r) (p .v) (p .dt)) 1
-    (guard (lt nought (p .mu)) 2
-    (guard (leb 1 (p .limit) && leb (p .limit) 100) 3
-    (onward (scaledOf (p .mu) (p .r) (p .v) (p .dt)) startOf)))
+    onward (inputsTested (p .mu) (p .r) (p .v) (p .dt)) (λ good.
+    guard (leb 1 (p .limit) && leb (p .limit) 100) 3
+    (onward (scaledOf (p .mu) (p .r) (p .v) (p .dt)) startOf))
 
 abbrev pub largestAngle : Float
 largestAngle = numberOf 0x4019_0000_0000_0000
@@ -121,7 +127,6 @@ largestAngle = numberOf 0x4019_0000_0000_0000
 -- Theta: 1, 2, then 4. "|a| > 6.25", and the tests above but for t and the far end, which it has not: with dt 0, t is 0
 unfoldable pub angleEntryOf : (mu : Float) (r v : Vector) (a : Float) → Checked Scaled
 angleEntryOf mu r v a =
-    guard (givenFinite mu r v a) 1
-    (guard (lt nought mu) 2
-    (guard (le (magnitude a) largestAngle) 4
-    (scaledOf mu r v nought)))
+    onward (inputsTested mu r v a) (λ good.
+    guard (le (magnitude a) largestAngle) 4
+    (scaledOf mu r v nought))

@@ -12,8 +12,10 @@ use Rattle.conic.specs.declared.unfolding.Arrival.{Arrival}
 use Rattle.conic.specs.declared.unfolding.Arrival.the-variants as arrival
 use Rattle.conic.specs.declared.entry.Number.{Number}
 use Rattle.conic.specs.declared.entry.Number.the-variants as number
-use Rattle.conic.specs.declared.entry.Unit.{Unit}
-use Rattle.conic.specs.declared.entry.Unit.the-variants as unit
+use Rattle.conic.specs.declared.entry.TimeUnit.{TimeUnit}
+use Rattle.conic.specs.declared.entry.TimeUnit.the-variants as unit
+use Rattle.conic.specs.declared.entry.Inputs.{Inputs}
+use Rattle.conic.specs.declared.entry.Inputs.the-variants as inputs
 use Rattle.conic.specs.declared.entry.Scaling.{Scaling}
 use Rattle.conic.specs.declared.entry.Scaling.the-variants as scaling
 use Rattle.conic.specs.declared.entry.Start.{Start}
@@ -58,11 +60,15 @@ abbrev pub arrived : Arrival → Checked State
 arrived (arrival.State state) = pass state
 arrived (arrival.Refused why) = refuse (numberOf why)
 
+abbrev pub passedInputs : Inputs → Checked (Unit {0})
+passedInputs inputs.Passed = pass tt
+passedInputs (inputs.Refused why) = refuse (numberOf why)
+
 abbrev pub passedNumber : Number → Checked Float
 passedNumber (number.Passed x) = pass x
 passedNumber (number.Refused why) = refuse (numberOf why)
 
-abbrev pub passedUnit : Unit → Checked (Float × Float)
+abbrev pub passedUnit : TimeUnit → Checked (Float × Float)
 passedUnit (unit.Passed f1 f4) = pass (f1, f4)
 passedUnit (unit.Refused why) = refuse (numberOf why)
 

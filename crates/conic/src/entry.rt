@@ -10,8 +10,8 @@ use root::Answer;
 use search::Bracket;
 use search::Point;
 ghost use mathlib.Core.Path.{_≡_};
-ghost use Rattle.conic.specs.Said.{passedNumber, passedUnit, passedScaled, passedStart};
-ghost use Rattle.conic.specs.Entry.{isUsable, givenFinite, radiusOf, unitOf, testedBy, scaledBy, scaledOf, farEndOf, bracketedBy, startOf, entryOf, angleEntryOf};
+ghost use Rattle.conic.specs.Said.{passedInputs, passedNumber, passedUnit, passedScaled, passedStart};
+ghost use Rattle.conic.specs.Entry.{givenFinite, inputsTested, isUsable, radiusOf, unitOf, testedBy, scaledBy, scaledOf, farEndOf, bracketedBy, startOf, entryOf, angleEntryOf};
 
 // 2^-20: a smaller p is a straight line.
 const STRAIGHT: f64 = 9.5367431640625e-07;
@@ -39,8 +39,14 @@ enum Number {
 }
 
 // f1 and the time unit f4, or why there are none.
-enum Unit {
+enum TimeUnit {
     Passed(f64, f64),
+    Refused(Reason),
+}
+
+// Whether the numbers given can be worked with, or why not.
+enum Inputs {
+    Passed,
     Refused(Reason),
 }
 
@@ -51,11 +57,9 @@ pub fn entry(p: Problem) -> Start
     let limit = p.limit;
     let r = p.r;
     let v = p.v;
-    if !given(p.mu, r, v, p.dt) {
-        return Start::Refused(Reason::InputNotFinite);
-    }
-    if !(0.0 < p.mu) {
-        return Start::Refused(Reason::MuNotPositive);
+    let inputs = first_tests(p.mu, r, v, p.dt);
+    if let Inputs::Refused(why) = inputs {
+        return Start::Refused(why);
     }
     if !((1 <= limit) & (limit <= 100)) {
         return Start::Refused(Reason::LimitOutOfRange);
@@ -70,16 +74,27 @@ pub fn entry(p: Problem) -> Start
 pub fn angle_entry(mu: f64, r: Vector, v: Vector, a: f64) -> Scaling
     ensures { λ x. ⌜ passedScaled x ≡ angleEntryOf mu r v a ⌝ }
 {
-    if !given(mu, r, v, a) {
-        return Scaling::Refused(Reason::InputNotFinite);
-    }
-    if !(0.0 < mu) {
-        return Scaling::Refused(Reason::MuNotPositive);
+    let inputs = first_tests(mu, r, v, a);
+    if let Inputs::Refused(why) = inputs {
+        return Scaling::Refused(why);
     }
     if !(exact::absolute(a) <= LARGEST_ANGLE) {
         return Scaling::Refused(Reason::AngleTooLarge);
     }
     scale(mu, r, v, 0.0)
+}
+
+// The tests that both begin with. The last number is the time or the angle.
+fn first_tests(mu: f64, r: Vector, v: Vector, last: f64) -> Inputs
+    ensures { λ x. ⌜ passedInputs x ≡ inputsTested mu r v last ⌝ }
+{
+    if !given(mu, r, v, last) {
+        return Inputs::Refused(Reason::InputNotFinite);
+    }
+    if !(0.0 < mu) {
+        return Inputs::Refused(Reason::MuNotPositive);
+    }
+    Inputs::Passed
 }
 
 fn given(mu: f64, r: Vector, v: Vector, last: f64) -> bool
@@ -113,21 +128,21 @@ fn radius(r: Vector) -> Number
 }
 
 // f1 and f4.
-fn time_unit(mu: f64, r0: f64) -> Unit
+fn time_unit(mu: f64, r0: f64) -> TimeUnit
     ensures { λ x. ⌜ passedUnit x ≡ unitOf mu r0 ⌝ }
 {
     let quotient = r0 / mu;
     if !usable(quotient) {
-        return Unit::Refused(Reason::NotFinite);
+        return TimeUnit::Refused(Reason::NotFinite);
     }
     let Answer::Root(f1) = root::root(quotient) else {
-        return Unit::Refused(Reason::RootRefused);
+        return TimeUnit::Refused(Reason::RootRefused);
     };
     let f4 = r0 * f1;
     if !(usable(f1) & usable(f4)) {
-        return Unit::Refused(Reason::NotFinite);
+        return TimeUnit::Refused(Reason::NotFinite);
     }
-    Unit::Passed(f1, f4)
+    TimeUnit::Passed(f1, f4)
 }
 
 fn scale(mu: f64, r: Vector, v: Vector, dt: f64) -> Scaling
@@ -136,8 +151,8 @@ fn scale(mu: f64, r: Vector, v: Vector, dt: f64) -> Scaling
     match radius(r) {
         Number::Refused(why) => Scaling::Refused(why),
         Number::Passed(r0) => match time_unit(mu, r0) {
-            Unit::Refused(why) => Scaling::Refused(why),
-            Unit::Passed(f1, f4) => scale_by(r, v, dt, r0, f1, f4),
+            TimeUnit::Refused(why) => Scaling::Refused(why),
+            TimeUnit::Passed(f1, f4) => scale_by(r, v, dt, r0, f1, f4),
         },
     }
 }
