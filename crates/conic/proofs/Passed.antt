@@ -1,5 +1,5 @@
--- What a problem that passes the entry tests is: each test held, s, alpha, p and t are numbers, and the bracket is the starting one. And what
--- a state that passes the tests of an arrival is.
+-- What a problem that passes the entry tests is: each row of tests passed, s, alpha, p and t are numbers, and the bracket is the starting
+-- one. And what a state that passes the tests of an arrival is.
 use mathlib.Core.Path.{_≡_, refl, sym, subst}
 use mathlib.Core.Bool.{Bool, true, false, cond, not, _&&_}
 use Prim.Native.Nat.{_≤_}
@@ -80,9 +80,11 @@ pub record Reaches (o : Scaled) (far : Float) : Type 0 where
   pub reaches : cond (le nought (o .t)) (lt (timeAt o far) (o .t)) (lt (o .t) (timeAt o far)) ≡ false
 
 pub record Entered (p : Problem) (o : Scaled) (b : Bracket) : Type 0 where
-  pub numbers : Numbers o
+  pub inputs : inputsTested (p .mu) (p .r) (p .v) (p .dt) ≡ pass tt
   pub least : 1 ≤ p .limit
   pub most : p .limit ≤ 100
+  pub scaled : scaledOf (p .mu) (p .r) (p .v) (p .dt) ≡ pass o
+  pub numbers : Numbers o
   pub far : Float
   pub far-is : farEndOf (o .alpha) ≡ pass far
   pub far-reaches : Reaches o (cond (le nought (o .t)) far (neg far))
@@ -110,6 +112,8 @@ entered p o b h =
     let X = rows-passed (farEndOf (e .alpha)) (λ x. bracketedBy e (cond (le nought (e .t)) x (neg x))) (S .2) in
     let B = bracketed-is e (cond (le nought (e .t)) (X .0) (neg (X .0))) (o, b) (X .2) in
     subst (λ (eb : Scaled × Bracket). Entered p (eb .0) (eb .1)) (sym (B .1)) (record {
+      inputs = inputs .1;
+      scaled = S .1;
       numbers = scaled-is (p .mu) (p .r) (p .v) (p .dt) e (S .1);
       least = leb-true 1 (p .limit) (is-true (leb 1 (p .limit)) (range .0));
       most = leb-true (p .limit) 100 (is-true (leb (p .limit) 100) (range .1));

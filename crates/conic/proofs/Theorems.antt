@@ -84,28 +84,30 @@ one-outcome arrival x n a b p q = one-said (withState x n (arrived arrival)) a b
 
 -- ---- the answers on the way: something passed, or a reason
 
-module _ {A B : Type 0} (told : A → Checked B) (passed : B → A) (failed : Reason → A) where
-  abbrev untold : Checked B → A
-  untold (pass x) = passed x
-  untold (refuse k) = failed (reasonOf k)
+abbrev untold : {A B : Type 0} → (B → A) → (Reason → A) → Checked B → A
+untold passed failed (pass x) = passed x
+untold passed failed (refuse k) = failed (reasonOf k)
 
-unarrived : (a : Arrival) → untold arrived arrival.State arrival.Refused (arrived a) ≡ a
+unarrived : (a : Arrival) → untold arrival.State arrival.Refused (arrived a) ≡ a
 unarrived (arrival.State state) = refl
 unarrived (arrival.Refused r) = ap arrival.Refused (reason-is r)
 
 pub one-arrival : (o : Scaled) (u1 u2 ratio : Float) (a b : Arrival) → arrived a ≡ arrivalOf o u1 u2 ratio → arrived b ≡ arrivalOf o u1 u2 ratio → a ≡ b
-one-arrival o u1 u2 ratio a b p q = undone arrived (untold arrived arrival.State arrival.Refused) unarrived a b (one-result p q)
+one-arrival o u1 u2 ratio a b p q = undone arrived (untold arrival.State arrival.Refused) unarrived a b (one-result p q)
 
-unscaled : (a : Scaling) → untold passedScaled scaling.Passed scaling.Refused (passedScaled a) ≡ a
+unscaled : (a : Scaling) → untold scaling.Passed scaling.Refused (passedScaled a) ≡ a
 unscaled (scaling.Passed o) = refl
 unscaled (scaling.Refused r) = ap scaling.Refused (reason-is r)
 
 pub one-angle-entry : (mu : Float) (r v : Vector) (angle : Float) (a b : Scaling) → passedScaled a ≡ angleEntryOf mu r v angle → passedScaled b ≡ angleEntryOf mu r v angle → a ≡ b
-one-angle-entry mu r v angle a b p q = undone passedScaled (untold passedScaled scaling.Passed scaling.Refused) unscaled a b (one-result p q)
+one-angle-entry mu r v angle a b p q = undone passedScaled (untold scaling.Passed scaling.Refused) unscaled a b (one-result p q)
 
-unstarted : (a : Start) → untold passedStart (λ (e : Scaled × Bracket). start.Passed (e .0) (e .1)) start.Refused (passedStart a) ≡ a
+abbrev started : Scaled × Bracket → Start
+started e = start.Passed (e .0) (e .1)
+
+unstarted : (a : Start) → untold started start.Refused (passedStart a) ≡ a
 unstarted (start.Passed o b) = refl
 unstarted (start.Refused r) = ap start.Refused (reason-is r)
 
 pub one-entry : (problem : Problem) (a b : Start) → passedStart a ≡ entryOf problem → passedStart b ≡ entryOf problem → a ≡ b
-one-entry problem a b p q = undone passedStart (untold passedStart (λ (e : Scaled × Bracket). start.Passed (e .0) (e .1)) start.Refused) unstarted a b (one-result p q)
+one-entry problem a b p q = undone passedStart (untold started start.Refused) unstarted a b (one-result p q)

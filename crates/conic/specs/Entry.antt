@@ -58,14 +58,14 @@ unitOf mu r0 =
 abbrev pub straight : Float
 straight = numberOf 0x3eb0_0000_0000_0000
 
--- 6. "s, q, alpha, p, t not finite". 7. "p < 2^-20 (straight line)"
+-- 6. "w, s, q, alpha, p, t not finite", from s on. 7. "p < 2^-20 (straight line)"
 unfoldable pub testedBy : (q : Float) → Scaled → Checked Scaled
 testedBy q o =
     guard (isFinite (o .s) && isFinite q && isFinite (o .alpha) && isFinite (o .p) && isFinite (o .t)) 6
     (guard (not (lt (o .p) straight)) 7
     (pass o))
 
--- "u = r/r0 and w = f1*v by component; s = u·w; q = w·w; alpha = 2 - q; p = q - s*s; t = dt/f4". 6. "w not finite", and the tests above
+-- "u = r/r0 and w = f1*v by component; s = u·w; q = w·w; alpha = 2 - q; p = q - s*s; t = dt/f4". 6. for w, and the tests above
 unfoldable pub scaledBy : (r v : Vector) (dt r0 f1 f4 : Float) → Checked Scaled
 scaledBy r v dt r0 f1 f4 =
     let u = over r r0 in

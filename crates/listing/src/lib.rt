@@ -3,6 +3,9 @@
 // A record is what one question takes: eight bytes for a root, 68 for Kepler, 64 for Theta. Up to
 // 65,536 records are read from standard input. Input that ends inside a record ends the output
 // with the line `short`; input beyond the last place with the line `more`.
+//
+// Every function here is proved safe and to end. What is read and written is `io`'s, and no part of
+// a contract; what an answer is, the crates below promise.
 use conic::Outcome;
 use conic::Problem;
 use conic::State;

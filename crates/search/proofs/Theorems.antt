@@ -1,5 +1,5 @@
--- Two answers that meet the contract of `next` coincide, since `said` can be undone; and so can `ended`, for a caller's search. The contracts
--- of `first` and `narrowed` are equations of the result itself, and one equation has one result (exact's `one-result`).
+-- Two answers that meet the contract of `next` coincide, since `said` can be undone. The contracts of `first` and `narrowed` are equations of
+-- the result itself, and one equation has one result (exact's `one-result`).
 use mathlib.Core.Path.{_≡_, refl}
 use lib.Ieee.{Float}
 use Rattle.exact.proofs.Coincidence.{one-result, undone}
