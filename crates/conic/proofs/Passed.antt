@@ -1,6 +1,7 @@
 -- What a problem that passes the entry tests is: each row of tests passed, s, alpha, p and t are numbers, and the bracket is the starting
 -- one. And what a state that passes the tests of an arrival is.
 use mathlib.Core.Path.{_≡_, refl, sym, subst}
+use mathlib.Core.Logic.{_↔_}
 use mathlib.Core.Bool.{Bool, true, false, cond, not, _&&_}
 use Prim.Native.Nat.{_≤_}
 use borrow.Author.Tests.{leb-true, not-true}
@@ -19,7 +20,7 @@ use Rattle.conic.specs.declared.State.{State}
 use Rattle.conic.specs.Tests.{Checked, pass, guard, onward}
 use Rattle.conic.specs.Vectors.{dot, allFinite, over, times}
 use Rattle.conic.specs.Functions.{timeAt}
-use Rattle.conic.specs.Unfolding.{leastRatio, unfolded, arrivalOf}
+use Rattle.conic.specs.Unfolding.{leastRatio, arrivalOf, ratioAt, stateAt, arrivalAt}
 use Rattle.conic.specs.Entry.{straight, inputsTested, radiusOf, unitOf, testedBy, scaledBy, scaledOf, farEndOf, startingBracket, bracketedBy, startOf, entryOf}
 use Rattle.conic.proofs.Rows.{pass-once, test-passed, rows-passed}
 
@@ -123,19 +124,21 @@ entered p o b h =
       bracket-is = refl;
     })
 
--- ---- the arrival
+-- ---- the arrival at x, both ways
 
-pub record Arrives (o : Scaled) (u1 u2 ratio : Float) (state : State) : Type 0 where
-  pub allowed : le leastRatio ratio ≡ true
+pub record Arrives (o : Scaled) (x : Float) (state : State) : Type 0 where
+  pub allowed : le leastRatio (ratioAt o x) ≡ true
   pub finite : allFinite (state .r) && allFinite (state .v) ≡ true
-  pub state-is : unfolded o u1 u2 ratio ≡ state
+  pub state-is : stateAt o x ≡ state
 
-pub arrives : (o : Scaled) (u1 u2 ratio : Float) (state : State) → arrivalOf o u1 u2 ratio ≡ pass state → Arrives o u1 u2 ratio state
-unfolding arrivalOf
-arrives o u1 u2 ratio state h =
-    let there = unfolded o u1 u2 ratio in
-    let all-finite = allFinite (there .r) && allFinite (there .v) in
-    let first = test-passed (le leastRatio ratio) 11 (guard all-finite 6 (pass there)) h in
-    let second = test-passed all-finite 6 (pass there) (first .1) in
-    let is : there ≡ state = pass-once (second .1) in
-    record { allowed = first .0; finite = subst (λ (a : State). allFinite (a .r) && allFinite (a .v) ≡ true) is (second .0); state-is = is }
+pub arrives : (o : Scaled) (x : Float) (state : State) → (arrivalAt o x ≡ pass state) ↔ Arrives o x state
+unfolding guard arrivalOf arrivalAt
+arrives o x state = (there, λ a. rw (a .allowed, a .state-is, a .finite) refl)
+  where
+    there : arrivalAt o x ≡ pass state → Arrives o x state
+    there h =
+        let all-finite = allFinite (stateAt o x .r) && allFinite (stateAt o x .v) in
+        let first = test-passed (le leastRatio (ratioAt o x)) 11 (guard all-finite 6 (pass (stateAt o x))) h in
+        let second = test-passed all-finite 6 (pass (stateAt o x)) (first .1) in
+        let is : stateAt o x ≡ state = pass-once (second .1) in
+        record { allowed = first .0; finite = subst (λ (a : State). allFinite (a .r) && allFinite (a .v) ≡ true) is (second .0); state-is = is }

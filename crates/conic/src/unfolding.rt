@@ -4,10 +4,11 @@ use crate::Outcome;
 use crate::Reason;
 use crate::Scaled;
 use crate::State;
+use crate::functions;
 use crate::vectors;
 ghost use mathlib.Core.Path.{_≡_};
 ghost use Rattle.conic.specs.Said.{said, arrived, withState};
-ghost use Rattle.conic.specs.Unfolding.{unfolded, arrivalOf};
+ghost use Rattle.conic.specs.Unfolding.{unfolded, arrivalOf, arrivalAt};
 
 // 2^-10: the least radius ratio.
 const LEAST_RATIO: f64 = 0.0009765625;
@@ -30,6 +31,14 @@ pub fn arrive(o: Scaled, u1: f64, u2: f64, ratio: f64) -> Arrival
         return Arrival::Refused(Reason::NotFinite);
     }
     Arrival::State(state)
+}
+
+// The state that x unfolds to, with the same tests.
+pub fn arrive_at(o: Scaled, x: f64) -> Arrival
+    ensures { λ r. ⌜ arrived r ≡ arrivalAt o x ⌝ }
+{
+    let u = functions::universal(x, o.alpha);
+    arrive(o, u.u1, u.u2, functions::ratio(o.s, u))
 }
 
 // A prediction's answer: the state with its x and count, or the refusal with the count.

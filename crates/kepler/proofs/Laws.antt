@@ -18,8 +18,8 @@ use Rattle.conic.specs.declared.Scaled.{Scaled}
 use Rattle.conic.specs.declared.State.{State}
 use Rattle.conic.specs.Tests.{Checked, pass, refuse}
 use Rattle.conic.specs.Said.{Said, solved, refused, refusedWithBracket, withState}
-use Rattle.conic.specs.Functions.{functionsAt, timeAt, ratioOf}
-use Rattle.conic.specs.Unfolding.{arrivalOf}
+use Rattle.conic.specs.Functions.{timeAt}
+use Rattle.conic.specs.Unfolding.{arrivalAt}
 use Rattle.conic.specs.Entry.{entryOf}
 use Rattle.conic.proofs.Passed.{entered, Arrives, arrives}
 use Rattle.conic.proofs.Fair.{fair}
@@ -42,7 +42,7 @@ state-count x n (refuse k) = refl
 
 outcome-count : (o : Scaled) (e : search.Ended) → countOf (outcomeOf o e) ≡ count.countOf e
 unfolding arrivedAt
-outcome-count o (search.solved x n) = let u = functionsAt x (o .alpha) in state-count x n (arrivalOf o (u .u1) (u .u2) (ratioOf (o .s) u))
+outcome-count o (search.solved x n) = state-count x n (arrivalAt o x)
 outcome-count o (search.closed b n) = refl
 outcome-count o (search.spent b n) = refl
 outcome-count o (search.lost n) = refl
@@ -97,7 +97,7 @@ pub record IsSolved (p : Problem) (x : Float) (state : State) : Type 0 where
   pub in-start : In start x
   pub finite : isFinite (timeAt o x) ≡ true
   pub near : isNear (timeAt o x) (o .t) ≡ true
-  pub arrival : Arrives o (functionsAt x (o .alpha) .u1) (functionsAt x (o .alpha) .u2) (ratioOf (o .s) (functionsAt x (o .alpha))) state
+  pub arrival : Arrives o x state
 
 -- what an answer says, if it is solved
 abbrev Solves : Problem → Said → Type 0
@@ -112,16 +112,15 @@ state-solves p x n (refuse k) is = tt
 end-solves : (p : Problem) (o : Scaled) (b : Bracket) → entryOf p ≡ pass (o, b) → (e : search.Ended) → foundIn o (p .limit) b ≡ e → Solves p (outcomeOf o e)
 unfolding arrivedAt
 end-solves p o b h (search.solved x n) f =
-    let u = functionsAt x (o .alpha) in
     let near = found-near p o b h f in
-    state-solves p x n (arrivalOf o (u .u1) (u .u2) (ratioOf (o .s) u)) (λ state a. record {
+    state-solves p x n (arrivalAt o x) (λ state a. record {
       o = o;
       start = b;
       entry = h;
       in-start = found-in p o b h f;
       finite = near .0;
       near = near .1;
-      arrival = arrives o (u .u1) (u .u2) (ratioOf (o .s) u) state a;
+      arrival = arrives o x state .0 a;
     })
 end-solves p o b h (search.closed new n) f = tt
 end-solves p o b h (search.spent new n) f = tt
@@ -160,7 +159,7 @@ named p o b h new w k n number =
 
 end-names : (p : Problem) (o : Scaled) (b : Bracket) → entryOf p ≡ pass (o, b) → (e : search.Ended) → foundIn o (p .limit) b ≡ e → NamesWell p (outcomeOf o e)
 unfolding arrivedAt
-end-names p o b h (search.solved x n) f = let u = functionsAt x (o .alpha) in state-names p x n (arrivalOf o (u .u1) (u .u2) (ratioOf (o .s) u))
+end-names p o b h (search.solved x n) f = state-names p x n (arrivalAt o x)
 end-names p o b h (search.closed new n) f = named p o b h new (n, inl f) 9 n (inl refl)
 end-names p o b h (search.spent new n) f = named p o b h new (n, inr f) 10 n (inr (refl, all-spent p o b h f))
 end-names p o b h (search.lost n) f = tt

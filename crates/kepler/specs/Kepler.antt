@@ -8,13 +8,13 @@ use Rattle.conic.specs.declared.Scaled.{Scaled}
 use Rattle.conic.specs.declared.Problem.{Problem}
 use Rattle.conic.specs.Tests.{Checked, pass, refuse}
 use Rattle.conic.specs.Said.{Said, refused, refusedWithBracket, withState}
-use Rattle.conic.specs.Functions.{functionsAt, timeAt, ratioOf}
-use Rattle.conic.specs.Unfolding.{arrivalOf}
+use Rattle.conic.specs.Functions.{timeAt}
+use Rattle.conic.specs.Unfolding.{arrivalAt}
 use Rattle.conic.specs.Entry.{entryOf}
 
 -- 2. "R below 2^-10 or not a number, refusal 11; unfold; a component not finite, refusal 6; else solved"
 unfoldable pub arrivedAt : Scaled → Float → ℕ → Said
-arrivedAt o x n = let u = functionsAt x (o .alpha) in withState x n (arrivalOf o (u .u1) (u .u2) (ratioOf (o .s) u))
+arrivedAt o x n = withState x n (arrivalAt o x)
 
 -- "A refusal carries its number, the count so far, and with 9 and 10 the bracket."
 abbrev pub outcomeOf : Scaled → search.Ended → Said

@@ -83,7 +83,5 @@ fn settled(o: Scaled, found: Found) -> Outcome
 fn arrived(o: Scaled, x: f64, count: u32) -> Outcome
     ensures { λ r. ⌜ said r ≡ arrivedAt o x count ⌝ }
 {
-    let u = conic::functions::universal(x, o.alpha);
-    let arrival = conic::unfolding::arrive(o, u.u1, u.u2, conic::functions::ratio(o.s, u));
-    conic::unfolding::outcome_of(arrival, x, count)
+    conic::unfolding::outcome_of(conic::unfolding::arrive_at(o, x), x, count)
 }

@@ -5,7 +5,7 @@
 // functions here, and its contract cites `searchOf` of `specs/Search.antt`. Every function is
 // proved and total, NaN and infinities included, and the crate assumes nothing.
 ghost use mathlib.Core.Path.{_≡_};
-ghost use Rattle.search.specs.Search.{firstGuess, narrowedBy, through, inside, middleOf, choose, nextGuess};
+ghost use Rattle.search.specs.Search.{within, firstGuess, narrowedBy, through, inside, middleOf, choose, nextGuess};
 ghost use Rattle.search.specs.Said.{said};
 
 // A guess or an end, with its time.
@@ -34,15 +34,18 @@ pub enum Found {
     Lost(u32),
 }
 
+// Whether x lies in the bracket, ends included; a NaN does not.
+pub fn contains(b: Bracket, x: f64) -> bool
+    ensures { λ r. ⌜ r ≡ within b x ⌝ }
+{
+    (b.lo.x <= x) & (x <= b.hi.x)
+}
+
 // The first guess: t where it lies in the bracket, ends included, else the middle.
 pub fn first(b: Bracket, t: f64) -> f64
     ensures { λ r. ⌜ r ≡ firstGuess b t ⌝ }
 {
-    if (b.lo.x <= t) & (t <= b.hi.x) {
-        t
-    } else {
-        middle(b)
-    }
+    if contains(b, t) { t } else { middle(b) }
 }
 
 // Step 3: the bracket in which the guess has taken the place of one end.

@@ -8,11 +8,11 @@ use Rattle.search.specs.Search.{firstGuess, narrowedBy, nextGuess, hunt, search
 use Rattle.conic.specs.Tests.{guard, onward}
 use Rattle.conic.specs.Series.{coefficients, workedFrom, worked}
 use Rattle.conic.specs.Functions.{functionsAt, timeAt}
-use Rattle.conic.specs.Unfolding.{unfolded, arrivalOf}
+use Rattle.conic.specs.Unfolding.{unfolded, arrivalOf, arrivalAt}
 use Rattle.conic.specs.Entry.{inputsTested, rooted, radiusOf, unitOf, testedBy, scaledBy, scaledOf, farEndOf, bracketedBy, startOf, entryOf}
 use Rattle.kepler.specs.Kepler.{arrivedAt, foundIn, keplerOf}
 use Rattle.trials.specs.Table.{AllHold, table}
 
 pub all-hold : AllHold table
-unfolding round add sub mul div neg lt le eq ne ofBits magnitude isNear steps wholeRoot radicand nearestRoot rootOf firstGuess narrowedBy nextGuess hunt searchOf guard onward coefficients workedFrom worked functionsAt timeAt unfolded arrivalOf inputsTested rooted radiusOf unitOf testedBy scaledBy scaledOf farEndOf bracketedBy startOf entryOf arrivedAt foundIn keplerOf
+unfolding round add sub mul div neg lt le eq ne ofBits magnitude isNear steps wholeRoot radicand nearestRoot rootOf firstGuess narrowedBy nextGuess hunt searchOf guard onward coefficients workedFrom worked functionsAt timeAt unfolded arrivalOf arrivalAt inputsTested rooted radiusOf unitOf testedBy scaledBy scaledOf farEndOf bracketedBy startOf entryOf arrivedAt foundIn keplerOf
 all-hold = (refl, (refl, (refl, (refl, (refl, (refl, (refl, (refl, (refl, (refl, (refl, (refl, (refl, (refl, (refl, tt)))))))))))))))

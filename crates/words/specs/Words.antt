@@ -1,5 +1,5 @@
 -- Numbers in bytes: document 01, "The deck", "Little-endian". Definitions only.
-use Prim.Native.Nat.{ℕ, zero, suc, _+_, _*_}
+use Prim.Native.Nat.{ℕ, zero, suc, _+_, _*_, _/_, _%_}
 use mathlib.Core.Bool.{cond}
 use mathlib.Core.List.{List, [], _∷_}
 use lib.Dec.{leb}
@@ -14,3 +14,8 @@ value (suc k) (b ∷ bytes) = b + 256 * value k bytes
 -- the value of the k bytes from index `at` on; 0 where the list ends before
 unfoldable pub valueAt : (k : ℕ) → List ℕ → (at : ℕ) → ℕ
 valueAt k bytes at = cond (leb (at + k) (length bytes)) (value k (drop at bytes)) 0
+
+-- the k lowest bytes of n, the lowest first
+unfoldable pub bytesOf : (k n : ℕ) → List ℕ
+bytesOf zero n = []
+bytesOf (suc k) n = n % 256 ∷ bytesOf k (n / 256)

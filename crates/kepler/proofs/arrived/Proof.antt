@@ -7,7 +7,7 @@ use Rattle.kepler.proofs.arrived.Tie as tie
 
 returns : tie.Need-returns
 unfolding arrivedAt
-returns c = c .outcome-of .ensures ∙ rw (c .before .arrive .ensures, c .before .before .ratio .ensures, c .before .before .before .universal .ensures) refl
+returns c = c .outcome-of .ensures ∙ rw (c .before .arrive-at .ensures) refl
 
 pub arrived-spec : {M : Type 1} → statement M
-arrived-spec = tie.close (tie.spec (λ c κs. search needs) (λ c κs. search needs) (λ c κs. search needs) (λ c κs. search needs) returns)
+arrived-spec = tie.close (tie.spec (λ c κs. search needs) (λ c κs. search needs) returns)

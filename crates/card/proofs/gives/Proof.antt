@@ -1,0 +1,14 @@
+-- `card::gives` meets its contract: each answer is one case of the definition.
+use mathlib.Core.Path.{refl}
+use borrow.Author.Needs.{needs}
+use Rattle.card.proofs.gives.Statement.{statement}
+use Rattle.card.proofs.gives.Tie as tie
+
+returns-2 : tie.Need-returns-2
+returns-2 c = rw (c .number .ensures, c .before .before .outcome .given .1) refl
+
+returns-3 : tie.Need-returns-3
+returns-3 c = rw (c .number2 .ensures, c .before .before .outcome2 .given .1) refl
+
+pub gives-spec : {M : Type 1} → statement M
+gives-spec = tie.close (tie.spec (λ c. search needs) (λ c. search needs) (λ c κs. search needs) (λ c. search needs) (λ c κs. search needs) (λ c. search needs) returns-2 returns-3)

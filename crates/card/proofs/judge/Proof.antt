@@ -1,0 +1,16 @@
+-- `card::judge` meets its contract: each kind is one case of the definition.
+use Rattle.card.specs.Verdict.{verdictOn}
+use borrow.Author.Needs.{needs}
+use Rattle.card.proofs.judge.Statement.{statement}
+use Rattle.card.proofs.judge.Tie as tie
+
+returns : tie.Need-returns
+unfolding verdictOn
+returns c = rw (c .before .enum-told .given .1) (c .solved .ensures)
+
+returns-2 : tie.Need-returns-2
+unfolding verdictOn
+returns-2 c = rw (c .before .enum-told2 .given .1) (c .refused .ensures)
+
+pub judge-spec : {M : Type 1} → statement M
+judge-spec = tie.close (tie.spec (λ c. search needs) (λ c κs. search needs) (λ c. search needs) (λ c κs. search needs) returns returns-2)

@@ -1,0 +1,58 @@
+-- The kinds of cards and the fields of a body: document 01, "The deck". Definitions only.
+use Prim.Native.Nat.{ℕ, _+_}
+use mathlib.Core.Bool.{cond}
+use mathlib.Core.List.{List}
+use lib.Dec.{eqb}
+use lib.Ieee.{Float}
+use Rattle.exact.specs.Numbers.{numberOf}
+use Rattle.words.specs.Words.{valueAt}
+use Rattle.conic.specs.declared.Vector.{Vector}
+use Rattle.conic.specs.declared.Problem.{Problem}
+use Rattle.conic.specs.Tests.{Checked, pass, refuse}
+use Rattle.card.specs.declared.Kind.{Kind}
+use Rattle.card.specs.declared.Kind.the-variants as kind
+
+-- a card: its kind, and the bytes of its body
+pub record Card : Type 0 where
+  pub kind : Kind
+  pub body : List ℕ
+
+-- "Kind 1, solved", "Kind 2, refused"; another number is refused with 34
+unfoldable pub kindOf : ℕ → Checked Kind
+kindOf n = cond (eqb n 1) (pass kind.Solved) (cond (eqb n 2) (pass kind.Refused) (refuse 34))
+
+-- "128 bytes", "80 bytes"
+unfoldable pub sizeOf : Kind → ℕ
+sizeOf kind.Solved = 128
+sizeOf kind.Refused = 80
+
+-- the number that stands in a body from index `at` on, and a vector of three
+abbrev pub numberAt : List ℕ → (at : ℕ) → Float
+numberAt body at = numberOf (valueAt 8 body at)
+
+abbrev pub vectorAt : List ℕ → (at : ℕ) → Vector
+vectorAt body at = record { x = numberAt body at; y = numberAt body (at + 8); z = numberAt body (at + 16) }
+
+-- "Problem, 72 bytes: mu, r, v, dt, limit u32, spare u32 = 0"
+unfoldable pub problemOf : List ℕ → Problem
+problemOf body = record { mu = numberAt body 0; r = vectorAt body 8; v = vectorAt body 32; dt = numberAt body 56; limit = valueAt 4 body 64 }
+
+abbrev pub spareOf : List ℕ → ℕ
+spareOf body = valueAt 4 body 68
+
+-- "Kind 1: problem, x, position, velocity": x, and where the other two begin
+abbrev pub xOf : List ℕ → Float
+xOf body = numberAt body 72
+
+abbrev pub positionAt : ℕ
+positionAt = 80
+
+abbrev pub velocityAt : ℕ
+velocityAt = 104
+
+-- "Kind 2: problem, refusal number u32, spare u32 = 0"
+abbrev pub refusalOf : List ℕ → ℕ
+refusalOf body = valueAt 4 body 72
+
+abbrev pub lastSpareOf : List ℕ → ℕ
+lastSpareOf body = valueAt 4 body 76

@@ -1,0 +1,4 @@
+pub mod Fields
+pub mod Said
+pub mod Verdict
+pub mod Made

@@ -1,0 +1,81 @@
+-- The verdict on a card, from its kind and the bytes of its body alone: document 01, "The deck". Definitions only.
+use Prim.Native.Nat.{ℕ, _+_}
+use mathlib.Core.Bool.{Bool, false, _&&_}
+use mathlib.Core.List.{List}
+use lib.Dec.{eqb}
+use lib.Ieee.{Float}
+use Rattle.exact.specs.Numbers.{_⊖_, wordOf, isFinite, magnitude, isNear}
+use Rattle.words.specs.Words.{valueAt}
+use Rattle.search.specs.declared.Bracket.{Bracket}
+use Rattle.search.specs.Search.{within}
+use Rattle.conic.specs.declared.Vector.{Vector}
+use Rattle.conic.specs.declared.State.{State}
+use Rattle.conic.specs.declared.Scaled.{Scaled}
+use Rattle.conic.specs.Tests.{Checked, pass, refuse, guard, onward}
+use Rattle.conic.specs.Said as conic
+use Rattle.conic.specs.Functions.{timeAt}
+use Rattle.conic.specs.Unfolding.{arrivalAt}
+use Rattle.conic.specs.Entry.{entryOf}
+use Rattle.kepler.specs.Kepler.{keplerOf}
+use Rattle.card.specs.declared.Kind.{Kind}
+use Rattle.card.specs.declared.Kind.the-variants as kind
+use Rattle.card.specs.Fields.{problemOf, spareOf, xOf, positionAt, velocityAt, refusalOf, lastSpareOf}
+use Rattle.card.specs.Said.{Said, solved, refused, rejected}
+
+-- the bits of a state, as words, against those of the body
+abbrev pub sameWords : List ℕ → (at : ℕ) → Vector → Bool
+sameWords body at a = eqb (valueAt 8 body at) (wordOf (a .x)) && eqb (valueAt 8 body (at + 8)) (wordOf (a .y)) && eqb (valueAt 8 body (at + 16)) (wordOf (a .z))
+
+abbrev pub sameState : List ℕ → State → Bool
+sameState body state = sameWords body positionAt (state .r) && sameWords body velocityAt (state .v)
+
+-- "11; 6 unfolding not finite; 22 state bits differ; else 0"
+unfoldable pub unfoldsTo : List ℕ → Scaled → (x residual : Float) → Checked Float
+unfoldsTo body o x residual =
+    onward (arrivalAt o x) (λ state.
+    guard (sameState body state) 22
+    (pass residual))
+
+-- "20 x not finite or outside the starting bracket, ends being inside; 6 T(x) not finite; 21 |T - t| > 2^-36"; the residual is |T - t|
+unfoldable pub atX : List ℕ → Scaled → Bracket → Checked Float
+atX body o b =
+    let x = xOf body in
+    let time = timeAt o x in
+    guard (isFinite x && within b x) 20
+    (guard (isFinite time) 6
+    (guard (isNear time (o .t)) 21
+    (unfoldsTo body o x (magnitude (time ⊖ o .t)))))
+
+-- "Verdict of a solved card, first that holds: 23 spare not 0; the problem's own refusal 1 to 8 or 14, by the tests before the first guess
+-- alone", and the tests above
+unfoldable pub solvedCard : List ℕ → Checked Float
+solvedCard body =
+    guard (eqb (spareOf body) 0) 23
+    (onward (entryOf (problemOf body)) (λ e.
+    atX body (e .0) (e .1)))
+
+-- whether Kepler gives this number
+abbrev pub isRefusedWith : conic.Said → ℕ → Bool
+isRefusedWith (conic.solved x n state) k = false
+isRefusedWith (conic.refused why n) k = eqb why k
+isRefusedWith (conic.refusedWithBracket why n lo hi) k = eqb why k
+
+-- "Refused card: 23; 24 if Kepler doesn't give that number; else 0"
+unfoldable pub refusedCard : List ℕ → Checked (Unit {0})
+refusedCard body =
+    guard (eqb (spareOf body) 0 && eqb (lastSpareOf body) 0) 23
+    (guard (isRefusedWith (keplerOf (problemOf body)) (refusalOf body)) 24
+    (pass tt))
+
+-- the verdict that a row of tests comes to
+abbrev pub asSolved : Checked Float → Said
+asSolved (pass residual) = solved residual
+asSolved (refuse k) = rejected k
+
+abbrev pub asRefused : Checked (Unit {0}) → Said
+asRefused (pass good) = refused
+asRefused (refuse k) = rejected k
+
+unfoldable pub verdictOn : Kind → List ℕ → Said
+verdictOn kind.Solved body = asSolved (solvedCard body)
+verdictOn kind.Refused body = asRefused (refusedCard body)
