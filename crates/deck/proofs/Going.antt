@@ -1,0 +1,126 @@
+-- The loop that judges a deck's cards, turn by turn: the cards that are left are those of the contents from entry i on; tallied and written
+-- from there on, they give the tally and the list of the whole deck.
+use mathlib.Core.Path.{_≡_, refl, sym, ap, _∙_, subst}
+use mathlib.Core.Bool.{true≢false}
+use mathlib.Core.List.{List, [], _∷_, _++_, map}
+use Prim.Native.Nat.{ℕ, zero, suc, _+_, _-_, _*_, _≤_, _<_}
+use native.Mathlib.Nat.{zero-add, add-zero, le-of-eq}
+use native.Mathlib.Numerals.{add-one}
+use native.Mathlib.Omega.{arith}
+use borrow.Rule.Slice.PartMut.{putMid, set-mid-at}
+use lib.ListN.{length, take, drop, set, length-drop, length-set, length-map}
+use lib.Seq.{length-take-le, sets, sets-eq}
+use Rattle.conic.specs.Tests.{Checked, pass, refuse, onward}
+use Rattle.conic.proofs.Rows.{pass-once}
+use Rattle.card.specs.declared.Kind.{Kind}
+use Rattle.card.specs.Fields.{Card, sizeOf}
+use Rattle.card.specs.Said.{Said, solved, refused, rejected, numberIn}
+use Rattle.card.specs.Verdict.{verdictOn}
+use Rattle.deck.specs.declared.tally.Running.{Running}
+use Rattle.deck.specs.Contents.{entryAt, entryOf, cardsFrom, Passes}
+use Rattle.deck.specs.Tally.{nothing, counted, countedAll, residualsOf, totalsOf, tallyOf}
+use Rattle.deck.specs.Check.{verdictsOf, written}
+use Rattle.deck.proofs.Cards.{cardAt, entry-inside, one-more, no-more, as-many}
+
+-- how many verdicts a tally has counted
+abbrev pub totalOf : Running → ℕ
+totalOf n = n .solved + n .refused + n .rejected
+
+pub one-counted : (n : Running) (v : Said) → totalOf (counted n v) ≡ totalOf n + 1
+one-counted n (solved residual) = omega arith
+one-counted n refused = omega arith
+one-counted n (rejected k) = omega arith
+
+-- while an entry is left, the part of the list that is lent on has a place
+pub some-left : (i : ℕ) (list : List ℕ) → i < length list → 0 < length (take (length list - i) (drop i list))
+some-left i list h = rw (length-take-le (length list - i) (drop i list) (le-of-eq (sym (length-drop i list)))) (omega arith)
+
+-- the numbers that the list gets
+abbrev numbers : List Card → List ℕ
+numbers cards = map numberIn (verdictsOf cards)
+
+pub record Going (deck : List ℕ) (count : ℕ) (before list : List ℕ) (i at : ℕ) (n : Running) : Type 0 where
+  pub all : List Card
+  pub whole : cardsFrom deck count 0 (entryAt count) ≡ pass all
+  pub rest : List Card
+  pub left : cardsFrom deck (count - i) i at ≡ pass rest
+  pub few : i ≤ count
+  pub inside : at ≤ length deck
+  pub tally : countedAll n (verdictsOf rest) ≡ countedAll nothing (verdictsOf all)
+  pub written-on : sets list i (numbers rest) ≡ sets before 0 (numbers all)
+  pub as-long : length list ≡ length before
+  pub total : totalOf n ≡ i
+
+passing : (m : Checked (List Card)) → Passes m → (cards : List Card) × (m ≡ pass cards)
+passing (pass cards) h = (cards, refl)
+passing (refuse k) h = absurd h
+
+pub start : (deck : List ℕ) (count : ℕ) (before : List ℕ) → entryAt count ≤ length deck → Passes (cardsFrom deck count 0 (entryAt count)) → Going deck count before before 0 (entryAt count) nothing
+start deck count before h p =
+    let w = passing (cardsFrom deck count 0 (entryAt count)) p in
+    let none-yet : count - 0 ≡ count = omega arith in
+    record { all = w .0; whole = w .1; rest = w .0; left = rw none-yet (w .1); few = omega arith; inside = h; tally = refl; written-on = refl; as-long = refl; total = refl }
+
+module _ {deck : List ℕ} {count : ℕ} {before list : List ℕ} {i at : ℕ} {n : Running} (g : Going deck count before list i at n) where
+  -- while an entry is left, it passes, and its card is the next one
+  next : i < count → cardsFrom deck (suc (count - (i + 1))) i at ≡ pass (g .rest)
+  next h = let one-less : count - i ≡ suc (count - (i + 1)) = omega arith in rw one-less at (g .left)
+
+  pub never-refused : (k : ℕ) → i < count → entryOf deck i at ≡ refuse k → ⊥
+  never-refused k h e =
+      let passed : pass (one-more deck (count - (i + 1)) i at (g .rest) (next h) .kind) ≡ refuse k = sym (one-more deck (count - (i + 1)) i at (g .rest) (next h) .entry) ∙ e in
+      true≢false cc
+
+  go-on : (kind : Kind) → i < count → entryOf deck i at ≡ pass kind → let v = verdictOn kind (cardAt deck kind at .body) in Going deck count before (set list i (numberIn v)) (i + 1) (at + sizeOf kind) (counted n v)
+  unfolding countedAll
+  go-on kind h e =
+      let v = verdictOn kind (cardAt deck kind at .body) in
+      let m = one-more deck (count - (i + 1)) i at (g .rest) (next h) in
+      let same : m .kind ≡ kind = pass-once (sym (m .entry) ∙ e) in
+      let rest-is : g .rest ≡ cardAt deck kind at ∷ m .rest = subst (λ (k : Kind). g .rest ≡ cardAt deck k at ∷ m .rest) same (m .cards-is) in
+      record {
+        all = g .all;
+        whole = g .whole;
+        rest = m .rest;
+        left = subst (λ (k : Kind). cardsFrom deck (count - (i + 1)) (i + 1) (at + sizeOf k) ≡ pass (m .rest)) same (m .others);
+        few = omega arith;
+        inside = entry-inside deck i at kind e;
+        tally = sym (ap (λ (r : List Card). countedAll n (verdictsOf r)) rest-is) ∙ g .tally;
+        written-on = ap (λ (k : ℕ). sets (set list i (numberIn v)) k (numbers (m .rest))) (add-one i) ∙ sym (ap (λ (r : List Card). sets list i (numbers r)) rest-is) ∙ g .written-on;
+        as-long = length-set list i (numberIn v) ∙ g .as-long;
+        total = one-counted n v ∙ ap (λ (k : ℕ). k + 1) (g .total);
+      }
+
+  -- the same as the code has it: the verdict v on the bytes from `at` to the body's end, written into the lent part of the list
+  pub turn : (kind : Kind) (size : ℕ) (v : Said) (lent : List ℕ) (m : Running) → i < count → i < length list → entryOf deck i at ≡ pass kind → size ≡ sizeOf kind
+      → v ≡ verdictOn kind (take (at + size - at) (drop at deck)) → lent ≡ set (take (length list - i) (drop i list)) 0 (numberIn v) → m ≡ counted n v
+      → Going deck count before (putMid i (length list - i) list lent) (i + 1) (at + size) m
+  turn kind size v lent m h room e size-is v-is lent-is m-is =
+      let taken : at + size - at ≡ sizeOf kind = omega arith in
+      let verdict-is : v ≡ verdictOn kind (cardAt deck kind at .body) = v-is ∙ ap (λ (k : ℕ). verdictOn kind (take k (drop at deck))) taken in
+      let put : putMid i (length list - i) list lent ≡ set list i (numberIn v) =
+      ap (putMid i (length list - i) list) lent-is ∙ set-mid-at i (length list - i) 0 list (numberIn v) (some-left i list room) ∙ ap (λ (k : ℕ). set list k (numberIn v)) (add-zero i) in
+      rw (put, size-is, m-is, verdict-is) (go-on kind h e)
+
+  -- after the last entry
+  finished : count ≤ i → g .rest ≡ []
+  finished h = let none-left : count - i ≡ 0 = omega arith in no-more deck i at (g .rest) (rw none-left at (g .left))
+
+  all-tallied : count ≤ i → n ≡ countedAll nothing (verdictsOf (g .all))
+  unfolding countedAll
+  all-tallied h = sym (ap (λ (r : List Card). countedAll n (verdictsOf r)) (finished h)) ∙ g .tally
+
+  all-written : count ≤ i → count ≤ length before → list ≡ numbers (g .all) ++ drop (length (verdictsOf (g .all))) before
+  all-written h room =
+      let many : 0 + length (numbers (g .all)) ≡ length (verdictsOf (g .all)) = zero-add (length (numbers (g .all))) ∙ length-map (verdictsOf (g .all)) numberIn in
+      let verdicts-many : length (verdictsOf (g .all)) ≡ count = length-map (g .all) (λ (c : Card). verdictOn (c .kind) (c .body)) ∙ as-many deck count 0 (entryAt count) (g .all) (g .whole) in
+      let fits : 0 + length (numbers (g .all)) ≤ length before = omega (arith, many, verdicts-many) in
+      sym (ap (λ (r : List Card). sets list i (numbers r)) (finished h)) ∙ g .written-on ∙ sets-eq (numbers (g .all)) before 0 fits ∙ ap (λ (k : ℕ). numbers (g .all) ++ drop k before) many
+
+  pub answer-is : count ≤ i → pass (totalsOf n, residualsOf n) ≡ onward (cardsFrom deck count 0 (entryAt count)) (λ cards. pass (tallyOf (verdictsOf cards)))
+  unfolding onward
+  answer-is h = rw (g .whole) (ap (λ (m : Running). pass (totalsOf m, residualsOf m)) (all-tallied h))
+
+  pub list-is : count ≤ i → count ≤ length before → list ≡ written (onward (cardsFrom deck count 0 (entryAt count)) (λ cards. pass (verdictsOf cards))) before
+  unfolding onward
+  list-is h room = rw (g .whole) (all-written h room)

@@ -1,0 +1,4 @@
+pub mod Cards
+pub mod Going
+pub mod Walking
+pub mod Opened

@@ -1,0 +1,90 @@
+-- What the check comes to, once the contents are tested: the contents' refusal, 39, or the verdicts on the cards; and the verdict list with it.
+use mathlib.Core.Path.{_≡_, refl, sym, ap, _∙_}
+use mathlib.Core.Bool.{true≢false}
+use mathlib.Core.List.{List}
+use Prim.Native.Nat.{ℕ, _≤_, _<_}
+use borrow.Author.Tests.{leb-true, le-leb, lt-leb}
+use lib.Dec.{eqb, leb}
+use lib.ListN.{length}
+use Rattle.conic.specs.Tests.{Checked, pass, refuse, guard, onward}
+use Rattle.conic.proofs.Rows.{pass-once, test-passed, rows-passed}
+use Rattle.card.specs.Fields.{Card}
+use Rattle.card.specs.Said.{Said}
+use Rattle.deck.specs.Contents.{entryAt, versionOf, countOf, cardsFrom, cardsOf, Passes}
+use Rattle.deck.specs.Tally.{tallyOf}
+use Rattle.deck.specs.Check.{verdictsOf, judgedOf, answerOf, written, listAfter}
+use Rattle.deck.proofs.Walking.{counting}
+
+-- a check that comes to a refusal hands out the number and leaves the list
+judged-refused : (deck list : List ℕ) (k : ℕ) → judgedOf deck (length list) ≡ refuse k → (refuse k ≡ answerOf deck (length list)) × (list ≡ listAfter deck list)
+unfolding onward answerOf listAfter
+judged-refused deck list k h = (rw h refl, rw h refl)
+
+-- ---- contents that are refused
+
+refused-before : (count : ℕ) (m : Checked (List Card)) (k : ℕ) → counting count m ≡ refuse k → m ≡ refuse k
+unfolding onward
+refused-before count (pass cards) k h = absurd (true≢false cc)
+refused-before count (refuse n) k h = cc
+
+pub contents-refused : (deck list : List ℕ) (k : ℕ) → counting (countOf deck) (cardsOf deck) ≡ refuse k → (refuse k ≡ answerOf deck (length list)) × (list ≡ listAfter deck list)
+unfolding onward judgedOf
+contents-refused deck list k h = judged-refused deck list k (rw (refused-before (countOf deck) (cardsOf deck) k h) refl)
+
+-- ---- contents that pass
+
+pub record Opened (deck : List ℕ) (count : ℕ) : Type 0 where
+  pub is : count ≡ countOf deck
+  pub most : count ≤ 256
+  pub inside : entryAt count ≤ length deck
+  pub cards-are : cardsOf deck ≡ cardsFrom deck count 0 (entryAt count)
+  pub passes : Passes (cardsFrom deck count 0 (entryAt count))
+
+passing : (m : Checked (List Card)) (cards : List Card) → m ≡ pass cards → Passes m
+passing (pass all) cards h = tt
+passing (refuse k) cards h = absurd (true≢false cc)
+
+pub opened : (deck : List ℕ) (count : ℕ) → counting (countOf deck) (cardsOf deck) ≡ pass count → Opened deck count
+unfolding guard cardsOf
+opened deck count h =
+    let P = rows-passed (cardsOf deck) (λ cards. pass (countOf deck)) h in
+    let is : countOf deck ≡ count = pass-once (P .2) in
+    let n = countOf deck in
+    let cards = cardsFrom deck n 0 (entryAt n) in
+    let first = test-passed (leb 8 (length deck)) 30 (guard (eqb (versionOf deck) 1) 31 (guard (leb n 256) 32 (guard (leb (entryAt n) (length deck)) 33 cards))) (P .1) in
+    let second = test-passed (eqb (versionOf deck) 1) 31 (guard (leb n 256) 32 (guard (leb (entryAt n) (length deck)) 33 cards)) (first .1) in
+    let third = test-passed (leb n 256) 32 (guard (leb (entryAt n) (length deck)) 33 cards) (second .1) in
+    let fourth = test-passed (leb (entryAt n) (length deck)) 33 cards (third .1) in
+    rw (← is) (record {
+      is = refl;
+      most = leb-true n 256 (third .0);
+      inside = leb-true (entryAt n) (length deck) (fourth .0);
+      cards-are = P .1 ∙ sym (fourth .1);
+      passes = passing cards (P .0) (fourth .1);
+    })
+
+module _ (deck : List ℕ) (count : ℕ) (o : Opened deck count) (list : List ℕ) where
+  too-short : length list < count → (m : Checked (List Card)) → Passes m → cardsOf deck ≡ m → judgedOf deck (length list) ≡ refuse 39
+  unfolding guard onward judgedOf
+  too-short h (pass cards) p e = rw (e, ← o .is, lt-leb count (length list) h) refl
+  too-short h (refuse k) p e = absurd p
+
+  pub list-too-short : length list < count → (refuse 39 ≡ answerOf deck (length list)) × (list ≡ listAfter deck list)
+  list-too-short h = judged-refused deck list 39 (too-short h (cardsFrom deck count 0 (entryAt count)) (o .passes) (o .cards-are))
+
+  -- the verdicts, or the contents' refusal, which there is none of
+  abbrev judged : Checked (List Said)
+  judged = onward (cardsFrom deck count 0 (entryAt count)) (λ cards. pass (verdictsOf cards))
+
+  room-enough : count ≤ length list → judgedOf deck (length list) ≡ judged
+  unfolding guard onward judgedOf
+  room-enough h = rw (o .cards-are, ← o .is, le-leb count (length list) h) refl
+
+  in-one-step : (m : Checked (List Card)) → onward m (λ cards. pass (tallyOf (verdictsOf cards))) ≡ onward (onward m (λ cards. pass (verdictsOf cards))) (λ verdicts. pass (tallyOf verdicts))
+  unfolding onward
+  in-one-step (pass cards) = refl
+  in-one-step (refuse k) = refl
+
+  pub accepted : count ≤ length list → (onward (cardsFrom deck count 0 (entryAt count)) (λ cards. pass (tallyOf (verdictsOf cards))) ≡ answerOf deck (length list)) × (written judged list ≡ listAfter deck list)
+  unfolding answerOf listAfter
+  accepted h = (in-one-step (cardsFrom deck count 0 (entryAt count)) ∙ rw (room-enough h) refl, rw (room-enough h) refl)

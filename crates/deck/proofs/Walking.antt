@@ -1,0 +1,61 @@
+-- The loop that tests a deck's entries, turn by turn: what is left to be tested comes to what the whole comes to, a refusal or the count.
+use mathlib.Core.Path.{_≡_, refl, sym, ap, _∙_}
+use mathlib.Core.List.{List, [], _∷_}
+use Prim.Native.Nat.{ℕ, suc, _+_, _-_, _≤_, _<_}
+use native.Mathlib.Omega.{arith}
+use borrow.Author.Tests.{eq-eqb, ne-eqb}
+use lib.ListN.{length}
+use Rattle.conic.specs.Tests.{Checked, pass, refuse, guard, onward}
+use Rattle.card.specs.declared.Kind.{Kind}
+use Rattle.card.specs.Fields.{Card, sizeOf}
+use Rattle.deck.specs.Contents.{entryAt, entryOf, cardsFrom}
+use Rattle.deck.proofs.Cards.{cardAt, entry-inside, and-rest, cards-are}
+
+-- a refusal, or the count
+abbrev pub counting : (count : ℕ) → Checked (List Card) → Checked ℕ
+counting count m = onward m (λ cards. pass count)
+
+pub record Walking (deck : List ℕ) (count i at : ℕ) : Type 0 where
+  pub few : i ≤ count
+  pub inside : at ≤ length deck
+  pub same : counting count (cardsFrom deck (count - i) i at) ≡ counting count (cardsFrom deck count 0 (entryAt count))
+
+pub set-out : (deck : List ℕ) (count : ℕ) → entryAt count ≤ length deck → Walking deck count 0 (entryAt count)
+set-out deck count h = let none-yet : count - 0 ≡ count = omega arith in record { few = omega arith; inside = h; same = rw none-yet refl }
+
+module _ {deck : List ℕ} {count i at : ℕ} (w : Walking deck count i at) where
+  -- while an entry is left, the whole comes to that entry and the rest
+  by-entry : i < count → counting count (onward (entryOf deck i at) (and-rest deck (count - (i + 1)) i at)) ≡ counting count (cardsFrom deck count 0 (entryAt count))
+  by-entry h =
+      let one-less : suc (count - (i + 1)) ≡ count - i = omega arith in
+      ap (counting count) (sym (cards-are deck (count - (i + 1)) i at) ∙ ap (λ (left : ℕ). cardsFrom deck left i at) one-less) ∙ w .same
+
+  pub entry-refused : (k : ℕ) → i < count → entryOf deck i at ≡ refuse k → refuse k ≡ counting count (cardsFrom deck count 0 (entryAt count))
+  unfolding onward
+  entry-refused k h e = sym (ap (λ m. counting count (onward m (and-rest deck (count - (i + 1)) i at))) e) ∙ by-entry h
+
+  -- a card in front changes no refusal and no count
+  behind : (m : Checked (List Card)) (c : Card) → counting count m ≡ counting count (onward m (λ rest. pass (c ∷ rest)))
+  unfolding onward
+  behind (pass cards) c = refl
+  behind (refuse k) c = refl
+
+  pub walk-on : (kind : Kind) → i < count → entryOf deck i at ≡ pass kind → Walking deck count (i + 1) (at + sizeOf kind)
+  unfolding onward
+  walk-on kind h e = record {
+    few = omega arith;
+    inside = entry-inside deck i at kind e;
+    same = behind (cardsFrom deck (count - (i + 1)) (i + 1) (at + sizeOf kind)) (cardAt deck kind at) ∙ sym (ap (λ m. counting count (onward m (and-rest deck (count - (i + 1)) i at))) e) ∙ by-entry h;
+  }
+
+  -- after the last entry
+  at-the-end : count ≤ i → counting count (cardsFrom deck 0 i at) ≡ counting count (cardsFrom deck count 0 (entryAt count))
+  at-the-end h = let none-left : count - i ≡ 0 = omega arith in rw none-left at (w .same)
+
+  pub left-over : count ≤ i → (at ≡ length deck → ⊥) → refuse 38 ≡ counting count (cardsFrom deck count 0 (entryAt count))
+  unfolding guard onward cardsFrom
+  left-over h e = rw (ne-eqb at (length deck) e) at (at-the-end h)
+
+  pub all-read : count ≤ i → at ≡ length deck → pass count ≡ counting count (cardsFrom deck count 0 (entryAt count))
+  unfolding guard onward cardsFrom
+  all-read h e = rw (eq-eqb at (length deck) e) at (at-the-end h)

@@ -1,0 +1,62 @@
+-- `contents::entries_tested` meets its contract: after each turn, what is left to be tested comes to what the whole comes to.
+use mathlib.Core.Path.{_≡_, sym, ap, subst, _∙_}
+use Prim.Native.Nat.{ℕ, _+_, _-_, _≤_}
+use native.Mathlib.Omega.{arith}
+use borrow.Author.Needs.{needs}
+use lib.ListN.{length}
+use Rattle.conic.specs.Tests.{pass}
+use Rattle.deck.specs.Said.{numberOf, entered}
+use Rattle.deck.specs.Contents.{entryOf}
+use Rattle.deck.proofs.Cards.{entry-inside}
+use Rattle.deck.proofs.Walking.{Walking, set-out, entry-refused, walk-on, left-over, all-read}
+use Rattle.deck.proofs.contents.entries_tested.Statement.{statement}
+use Rattle.deck.proofs.contents.entries_tested.Tie as tie
+
+abbrev Inv-loop : tie.InvT-loop
+Inv-loop deck count i₀ at₀ i at = Walking deck count i at
+
+abbrev μ-loop : tie.MeasureT-loop
+μ-loop deck count i₀ at₀ i at = count - i
+
+mul-at : tie.Need-mul-at Inv-loop μ-loop
+mul-at c = omega arith
+
+add-at : tie.Need-add-at Inv-loop μ-loop
+add-at c = omega arith
+
+loop-holds : tie.Need-loop-holds Inv-loop μ-loop
+loop-holds c = set-out (c .before .args .deck .now) (c .before .args .count) (c .before .pre .1)
+
+entry-at-requires : tie.Need-entry-at-requires Inv-loop μ-loop
+entry-at-requires c κs = (omega (arith, c .before .loop .inv .few), c .before .loop .inv .inside)
+
+returns : tie.Need-returns Inv-loop μ-loop
+returns c = entry-refused (c .before .before .before .before .before .loop .inv) (numberOf (c .before .why .given .0 .0)) (omega arith) (sym (c .before .before .before .entry-at .ensures) ∙ ap entered (c .before .why .given .1))
+
+-- the entry passed, and its body is inside
+passed : (c : tie.After-size Inv-loop μ-loop) → entryOf (c .before .before .before .before .before .before .before .before .args .deck .now) (c .before .before .before .before .before .before .loop .i) (c .before .before .before .before .before .before .loop .at) ≡ pass (c .before .before .kind .given .0 .0)
+passed c = sym (c .before .before .before .before .entry-at .ensures) ∙ ap entered (c .before .before .kind .given .1)
+
+room : (c : tie.After-size Inv-loop μ-loop) → c .before .before .before .before .before .before .loop .at + c .size .result ≤ length (c .before .before .before .before .before .before .before .before .args .deck .now)
+room c = rw (c .size .ensures) (entry-inside (c .before .before .before .before .before .before .before .before .args .deck .now) (c .before .before .before .before .before .before .loop .i) (c .before .before .before .before .before .before .loop .at) (c .before .before .kind .given .0 .0) (passed c))
+
+add-at-2 : tie.Need-add-at-2 Inv-loop μ-loop
+add-at-2 c = omega (arith, room c)
+
+add-i : tie.Need-add-i Inv-loop μ-loop
+add-i c = omega (arith, c .before .before .before .before .before .before .loop .inv .few)
+
+loop-less : tie.Need-loop-less Inv-loop μ-loop
+loop-less c = omega arith
+
+loop-again : tie.Need-loop-again Inv-loop μ-loop
+loop-again c = subst (λ (n : ℕ). Walking (c .before .before .before .before .before .before .before .before .args .deck .now) (c .before .before .before .before .before .before .before .before .args .count) (c .before .before .before .before .before .before .loop .i + 1) (c .before .before .before .before .before .before .loop .at + n)) (sym (c .size .ensures)) (walk-on (c .before .before .before .before .before .before .loop .inv) (c .before .before .kind .given .0 .0) (omega arith) (passed (c)))
+
+returns-2 : tie.Need-returns-2 Inv-loop μ-loop
+returns-2 c = left-over (c .before .before .loop .inv) (omega arith) (c .if1 .taken)
+
+returns-3 : tie.Need-returns-3 Inv-loop μ-loop
+returns-3 c = all-read (c .before .before .loop .inv) (omega arith) (c .if1 .left)
+
+pub entries-tested-spec : {M : Type 1} → statement M
+entries-tested-spec = tie.close (tie.spec Inv-loop μ-loop mul-at add-at loop-holds entry-at-requires (λ c. search needs) returns (λ c. search needs) (λ c κs. search needs) add-at-2 add-i loop-less loop-again returns-2 returns-3)

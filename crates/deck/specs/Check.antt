@@ -1,0 +1,34 @@
+-- What the check of a deck comes to, and the verdict list afterwards: document 01, "The deck". Definitions only.
+use Prim.Native.Nat.{ℕ}
+use mathlib.Core.List.{List, _++_, map}
+use lib.Dec.{leb}
+use lib.ListN.{length, drop}
+use Rattle.conic.specs.Tests.{Checked, pass, refuse, guard, onward}
+use Rattle.card.specs.Fields.{Card}
+use Rattle.card.specs.Said.{Said, numberIn}
+use Rattle.card.specs.Verdict.{verdictOn}
+use Rattle.deck.specs.declared.Totals.{Totals}
+use Rattle.deck.specs.Contents.{countOf, cardsOf}
+use Rattle.deck.specs.Tally.{Residuals, tallyOf}
+
+-- a verdict for each card, in deck order
+abbrev pub verdictsOf : List Card → List Said
+verdictsOf cards = map (λ (c : Card). verdictOn (c .kind) (c .body)) cards
+
+-- the refusals of the contents, then "39 verdict list shorter than count"; a deck that passes is accepted
+unfoldable pub judgedOf : List ℕ → (room : ℕ) → Checked (List Said)
+judgedOf deck room =
+    onward (cardsOf deck) (λ cards.
+    guard (leb (countOf deck) room) 39
+    (pass (verdictsOf cards)))
+
+unfoldable pub answerOf : List ℕ → (room : ℕ) → Checked (Totals × Residuals)
+answerOf deck room = onward (judgedOf deck room) (λ verdicts. pass (tallyOf verdicts))
+
+-- "An accepted deck writes one verdict a card; places beyond the count keep their values." A refused deck leaves the list as it was lent.
+abbrev pub written : Checked (List Said) → List ℕ → List ℕ
+written (pass verdicts) list = map numberIn verdicts ++ drop (length verdicts) list
+written (refuse k) list = list
+
+unfoldable pub listAfter : List ℕ → List ℕ → List ℕ
+listAfter deck list = written (judgedOf deck (length list)) list

@@ -1,0 +1,4 @@
+pub mod Contents
+pub mod Tally
+pub mod Said
+pub mod Check

@@ -1,0 +1,48 @@
+-- What the answers say, in document 01's numbers and values. Definitions only.
+use Prim.Native.Nat.{ℕ}
+use Rattle.conic.specs.Tests.{Checked, pass, refuse}
+use Rattle.card.specs.declared.Kind.{Kind}
+use Rattle.deck.specs.declared.Totals.{Totals}
+use Rattle.deck.specs.declared.Reason.{Reason}
+use Rattle.deck.specs.declared.Reason.the-variants as why
+use Rattle.deck.specs.declared.Residuals as declared
+use Rattle.deck.specs.declared.Residuals.the-variants as residuals
+use Rattle.deck.specs.declared.Answer.{Answer}
+use Rattle.deck.specs.declared.Answer.the-variants as answer
+use Rattle.deck.specs.declared.contents.Entry.{Entry}
+use Rattle.deck.specs.declared.contents.Entry.the-variants as entry
+use Rattle.deck.specs.declared.contents.Contents.{Contents}
+use Rattle.deck.specs.declared.contents.Contents.the-variants as contents
+use Rattle.deck.specs.Tally.{Residuals, absent, known}
+
+-- "Refused decks"
+abbrev pub numberOf : Reason → ℕ
+numberOf why.TooShort = 30
+numberOf why.OtherVersion = 31
+numberOf why.TooManyCards = 32
+numberOf why.ContentsPastEnd = 33
+numberOf why.UnknownKind = 34
+numberOf why.WrongLength = 35
+numberOf why.WrongOffset = 36
+numberOf why.BodyPastEnd = 37
+numberOf why.BytesLeftOver = 38
+numberOf why.ListTooShort = 39
+
+-- mean and worst, or that both are absent
+abbrev pub told : declared.Residuals → Residuals
+told residuals.Absent = absent
+told (residuals.Known mean worst) = known mean worst
+
+-- the three totals with mean and worst, or the number of the refusal
+abbrev pub said : Answer → Checked (Totals × Residuals)
+said (answer.Accepted totals r) = pass (totals, told r)
+said (answer.Refused why) = refuse (numberOf why)
+
+-- the answers on the way
+abbrev pub entered : Entry → Checked Kind
+entered (entry.Card kind) = pass kind
+entered (entry.Refused why) = refuse (numberOf why)
+
+abbrev pub listed : Contents → Checked ℕ
+listed (contents.Cards count) = pass count
+listed (contents.Refused why) = refuse (numberOf why)

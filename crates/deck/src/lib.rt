@@ -1,0 +1,137 @@
+// The deck: its contents tested in document 01's order, a verdict for each card, and the tally.
+// Document 01, "The deck".
+//
+// `check` is proved and total: its answer and the verdict list afterwards are definitions of the
+// deck's bytes and the list before. A refused deck leaves the list as it was lent. The crate assumes
+// nothing.
+use card::Kind;
+use card::Named;
+use card::Verdict;
+use contents::Contents;
+use contents::Entry;
+use tally::Running;
+ghost use mathlib.Core.Path.{_≡_};
+ghost use Prim.Native.Nat.{_+_, _*_, _≤_, _<_};
+ghost use lib.ListN.{length, set};
+ghost use Rattle.card.specs.Said as card;
+ghost use Rattle.card.specs.Verdict.{verdictOn};
+ghost use Rattle.conic.specs.Tests.{pass, onward};
+ghost use Rattle.deck.specs.Said.{numberOf, said};
+ghost use Rattle.deck.specs.Contents.{kindAt, entryAt, cardsFrom, Passes};
+ghost use Rattle.deck.specs.Tally.{tallyOf};
+ghost use Rattle.deck.specs.Check.{verdictsOf, answerOf, written, listAfter};
+
+mod contents;
+mod tally;
+
+// Why a deck is refused.
+pub enum Reason {
+    TooShort,
+    OtherVersion,
+    TooManyCards,
+    ContentsPastEnd,
+    UnknownKind,
+    WrongLength,
+    WrongOffset,
+    BodyPastEnd,
+    BytesLeftOver,
+    ListTooShort,
+}
+
+impl Reason {
+    // The number that document 01 gives it.
+    pub fn number(self) -> u32
+        ensures { λ r. ⌜ r ≡ numberOf self ⌝ }
+    {
+        match self {
+            Reason::TooShort => 30,
+            Reason::OtherVersion => 31,
+            Reason::TooManyCards => 32,
+            Reason::ContentsPastEnd => 33,
+            Reason::UnknownKind => 34,
+            Reason::WrongLength => 35,
+            Reason::WrongOffset => 36,
+            Reason::BodyPastEnd => 37,
+            Reason::BytesLeftOver => 38,
+            Reason::ListTooShort => 39,
+        }
+    }
+}
+
+// How many cards were accepted as solved, accepted as refused, and rejected.
+pub struct Totals {
+    pub solved: u32,
+    pub refused: u32,
+    pub rejected: u32,
+}
+
+// Mean and worst of |T - t| over the solved cards; absent, never zero, where there is none.
+pub enum Residuals {
+    Absent,
+    Known { mean: f64, worst: f64 },
+}
+
+pub enum Answer {
+    Accepted(Totals, Residuals),
+    Refused(Reason),
+}
+
+// Checks a deck: one verdict a card goes into the lent list, whose places beyond the count keep their
+// values.
+pub fn check(deck: &[u8], verdicts: &mut [u32]) -> Answer
+    ensures { λ r. ⌜ said r ≡ answerOf (now (deck .entry)) (length (now (verdicts .entry))) ⌝ }
+    ensures { λ r. ⌜ now (verdicts .exit) ≡ listAfter (now (deck .entry)) (now (verdicts .entry)) ⌝ }
+{
+    match contents::tested(deck) {
+        Contents::Refused(why) => Answer::Refused(why),
+        Contents::Cards(count) => {
+            if verdicts.len() < count {
+                return Answer::Refused(Reason::ListTooShort);
+            }
+            judged(deck, count, verdicts)
+        }
+    }
+}
+
+// The kind in the contents' entry i.
+pub fn kind_at(deck: &[u8], i: u32) -> Named
+    ensures { λ r. ⌜ card.named r ≡ kindAt (now (deck .entry)) i ⌝ }
+{
+    card::kind_of(words::half(deck, 8 + 12 * i as usize))
+}
+
+// A verdict for each card of a deck whose contents passed, and the tally. No entry is refused here.
+fn judged(deck: &[u8], count: usize, verdicts: &mut [u32]) -> Answer
+    requires { ⌜ (count ≤ 256) × (entryAt count ≤ length (now deck)) × (count ≤ length (now verdicts)) ⌝ }
+    requires { ⌜ Passes (cardsFrom (now deck) count 0 (entryAt count)) ⌝ }
+    ensures { λ r. ⌜ said r ≡ onward (cardsFrom (now (deck .entry)) count 0 (entryAt count)) (λ cards. pass (tallyOf (verdictsOf cards))) ⌝ }
+    ensures { λ r. ⌜ now (verdicts .exit) ≡ written (onward (cardsFrom (now (deck .entry)) count 0 (entryAt count)) (λ cards. pass (verdictsOf cards))) (now (verdicts .entry)) ⌝ }
+{
+    let mut i = 0;
+    let mut at = 8 + 12 * count;
+    let mut running = tally::none();
+    while i < count {
+        match contents::entry_at(deck, i, at) {
+            Entry::Refused(why) => return Answer::Refused(why),
+            Entry::Card(kind) => {
+                let end = at + kind.size();
+                let verdict = judge_into(&mut verdicts[i..], kind, &deck[at..end]);
+                running = tally::with(running, verdict);
+                at = end;
+                i += 1;
+            }
+        }
+    }
+    tally::closed(running)
+}
+
+// The verdict on a card, written into the first place of the list.
+fn judge_into(verdicts: &mut [u32], kind: Kind, body: &[u8]) -> Verdict
+    requires { ⌜ 0 < length (now verdicts) ⌝ }
+    ensures { λ r. ⌜ card.said r ≡ verdictOn kind (now (body .entry)) ⌝ }
+    ensures { λ r. ⌜ now (verdicts .exit) ≡ set (now (verdicts .entry)) 0 (card.numberIn (card.said r)) ⌝ }
+{
+    let verdict = card::judge(kind, body);
+    verdicts[0] = verdict.number();
+    verdict
+}
