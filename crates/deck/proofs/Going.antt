@@ -14,22 +14,14 @@ use Rattle.conic.specs.Tests.{Checked, pass, refuse, onward}
 use Rattle.conic.proofs.Rows.{pass-once}
 use Rattle.card.specs.declared.Kind.{Kind}
 use Rattle.card.specs.Fields.{Card, sizeOf}
-use Rattle.card.specs.Said.{Said, solved, refused, rejected, numberIn}
+use Rattle.card.specs.Said.{Said, numberIn}
 use Rattle.card.specs.Verdict.{verdictOn}
 use Rattle.deck.specs.declared.tally.Running.{Running}
 use Rattle.deck.specs.Contents.{entryAt, entryOf, cardsFrom, Passes}
 use Rattle.deck.specs.Tally.{nothing, counted, countedAll, residualsOf, totalsOf, tallyOf}
 use Rattle.deck.specs.Check.{verdictsOf, written}
+use Rattle.deck.proofs.Tallied.{totalOf, one-counted}
 use Rattle.deck.proofs.Cards.{cardAt, entry-inside, one-more, no-more, as-many}
-
--- how many verdicts a tally has counted
-abbrev pub totalOf : Running → ℕ
-totalOf n = n .solved + n .refused + n .rejected
-
-pub one-counted : (n : Running) (v : Said) → totalOf (counted n v) ≡ totalOf n + 1
-one-counted n (solved residual) = omega arith
-one-counted n refused = omega arith
-one-counted n (rejected k) = omega arith
 
 -- while an entry is left, the part of the list that is lent on has a place
 pub some-left : (i : ℕ) (list : List ℕ) → i < length list → 0 < length (take (length list - i) (drop i list))

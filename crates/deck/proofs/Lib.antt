@@ -1,4 +1,6 @@
 pub mod Cards
-pub mod Going
 pub mod Walking
+pub mod Tallied
+pub mod Going
 pub mod Opened
+pub mod Theorems

@@ -1,0 +1,139 @@
+-- The theorems about a check: two answers that meet the contract coincide; an accepted deck's totals add up to its count; a refused deck
+-- leaves the list as it was lent, and any deck leaves it as long as it was.
+use mathlib.Core.Path.{_≡_, refl, sym, ap, _∙_}
+use mathlib.Core.Bool.{true≢false}
+use mathlib.Core.List.{List, [], _∷_, _++_, map}
+use Prim.Native.Nat.{ℕ, _+_, _-_, _≤_}
+use native.Mathlib.Omega.{arith}
+use borrow.Author.Tests.{leb-true}
+use lib.Dec.{leb}
+use lib.ListN.{length, take, drop, getD, length-append, length-drop, length-map}
+use lib.Seq.{take-at, drop-at}
+use Rattle.exact.proofs.Coincidence.{one-result, undone}
+use Rattle.conic.specs.Tests.{Checked, pass, refuse, guard, onward}
+use Rattle.conic.proofs.Rows.{pass-once, test-passed, rows-passed}
+use Rattle.card.specs.Fields.{Card}
+use Rattle.card.specs.Said.{Said, numberIn}
+use Rattle.card.specs.Verdict.{verdictOn}
+use Rattle.deck.specs.declared.Totals.{Totals}
+use Rattle.deck.specs.declared.Reason.{Reason}
+use Rattle.deck.specs.declared.Reason.the-variants as why
+use Rattle.deck.specs.declared.Residuals as declared
+use Rattle.deck.specs.declared.Residuals.the-variants as residuals
+use Rattle.deck.specs.declared.Answer.{Answer}
+use Rattle.deck.specs.declared.Answer.the-variants as answer
+use Rattle.deck.specs.Contents.{entryAt, countOf, cardsFrom, cardsOf}
+use Rattle.deck.specs.Tally.{Residuals, absent, known, tallyOf}
+use Rattle.deck.specs.Said.{numberOf, told, said}
+use Rattle.deck.specs.Check.{verdictsOf, judgedOf, answerOf, written, listAfter}
+use Rattle.deck.proofs.Cards.{as-many}
+use Rattle.deck.proofs.Tallied.{totals-add-up}
+use Rattle.deck.proofs.Opened.{Opened, opened}
+
+-- ---- coincidence
+
+-- a reason by its number, from 30 on
+abbrev reasons : List Reason
+reasons =
+    why.TooShort
+    ∷ why.OtherVersion
+    ∷ why.TooManyCards
+    ∷ why.ContentsPastEnd
+    ∷ why.UnknownKind
+    ∷ why.WrongLength
+    ∷ why.WrongOffset
+    ∷ why.BodyPastEnd
+    ∷ why.BytesLeftOver
+    ∷ why.ListTooShort
+    ∷ []
+
+abbrev reasonOf : ℕ → Reason
+reasonOf k = getD reasons (k - 30) why.TooShort
+
+reason-is : (r : Reason) → reasonOf (numberOf r) ≡ r
+reason-is why.TooShort = refl
+reason-is why.OtherVersion = refl
+reason-is why.TooManyCards = refl
+reason-is why.ContentsPastEnd = refl
+reason-is why.UnknownKind = refl
+reason-is why.WrongLength = refl
+reason-is why.WrongOffset = refl
+reason-is why.BodyPastEnd = refl
+reason-is why.BytesLeftOver = refl
+reason-is why.ListTooShort = refl
+
+abbrev untold : Residuals → declared.Residuals
+untold absent = residuals.Absent
+untold (known mean worst) = residuals.Known mean worst
+
+untold-is : (r : declared.Residuals) → untold (told r) ≡ r
+untold-is residuals.Absent = refl
+untold-is (residuals.Known mean worst) = refl
+
+abbrev unsaid : Checked (Totals × Residuals) → Answer
+unsaid (pass (totals, r)) = answer.Accepted totals (untold r)
+unsaid (refuse k) = answer.Refused (reasonOf k)
+
+unsaid-is : (a : Answer) → unsaid (said a) ≡ a
+unsaid-is (answer.Accepted totals r) = ap (answer.Accepted totals) (untold-is r)
+unsaid-is (answer.Refused r) = ap answer.Refused (reason-is r)
+
+pub one-answer : (deck : List ℕ) (room : ℕ) (a b : Answer) → said a ≡ answerOf deck room → said b ≡ answerOf deck room → a ≡ b
+one-answer deck room a b p q = undone said unsaid unsaid-is a b (one-result p q)
+
+-- ---- an accepted deck: its cards, a verdict for each, and room for them
+
+pub record Accepted (deck : List ℕ) (room : ℕ) (verdicts : List Said) : Type 0 where
+  pub cards : List Card
+  pub cards-are : cardsOf deck ≡ pass cards
+  pub verdicts-are : verdicts ≡ verdictsOf cards
+  pub enough : countOf deck ≤ room
+  pub as-many-verdicts : length verdicts ≡ countOf deck
+
+pub accepted-means : (deck : List ℕ) (room : ℕ) (verdicts : List Said) → judgedOf deck room ≡ pass verdicts → Accepted deck room verdicts
+unfolding onward judgedOf
+accepted-means deck room verdicts h =
+    let C = rows-passed (cardsOf deck) (λ cards. guard (leb (countOf deck) room) 39 (pass (verdictsOf cards))) h in
+    let list = test-passed (leb (countOf deck) room) 39 (pass (verdictsOf (C .0))) (C .2) in
+    let is : verdictsOf (C .0) ≡ verdicts = pass-once (list .1) in
+    let o = opened deck (countOf deck) (rw (C .1) refl) in
+    let many : length (C .0) ≡ countOf deck = as-many deck (countOf deck) 0 (entryAt (countOf deck)) (C .0) (sym (o .cards-are) ∙ C .1) in
+    record {
+      cards = C .0;
+      cards-are = C .1;
+      verdicts-are = sym is;
+      enough = leb-true (countOf deck) room (list .0);
+      as-many-verdicts = sym (ap length is) ∙ length-map (C .0) (λ (c : Card). verdictOn (c .kind) (c .body)) ∙ many;
+    }
+
+-- "The three add up to the count."
+pub add-up : (deck : List ℕ) (room : ℕ) (totals : Totals) (r : Residuals) → answerOf deck room ≡ pass (totals, r) → totals .solved + totals .refused + totals .rejected ≡ countOf deck
+unfolding answerOf
+add-up deck room totals r h =
+    let J = rows-passed (judgedOf deck room) (λ verdicts. pass (tallyOf verdicts)) h in
+    let is : tallyOf (J .0) ≡ (totals, r) = pass-once (J .2) in
+    sym (ap (λ (t : Totals × Residuals). t .0 .solved + t .0 .refused + t .0 .rejected) is) ∙ totals-add-up (J .0) ∙ accepted-means deck room (J .0) (J .1) .as-many-verdicts
+
+-- ---- the list afterwards
+
+kept : (list : List ℕ) (m : Checked (List Said)) (k : ℕ) → onward m (λ verdicts. pass (tallyOf verdicts)) ≡ refuse k → written m list ≡ list
+unfolding onward
+kept list (pass verdicts) k e = absurd (true≢false cc)
+kept list (refuse n) k e = refl
+
+-- a refused deck leaves it as it was lent
+pub refused-keeps : (deck list : List ℕ) (k : ℕ) → answerOf deck (length list) ≡ refuse k → listAfter deck list ≡ list
+unfolding answerOf listAfter
+refused-keeps deck list k h = kept list (judgedOf deck (length list)) k h
+
+-- "An accepted deck writes one verdict a card; places beyond the count keep their values."
+pub accepted-writes : (deck list : List ℕ) (verdicts : List Said) → judgedOf deck (length list) ≡ pass verdicts
+    → (take (countOf deck) (listAfter deck list) ≡ map numberIn verdicts) × (drop (countOf deck) (listAfter deck list) ≡ drop (countOf deck) list)
+unfolding listAfter
+accepted-writes deck list verdicts h =
+    let a = accepted-means deck (length list) verdicts h in
+    let many : length (map numberIn verdicts) ≡ countOf deck = length-map verdicts numberIn ∙ a .as-many-verdicts in
+    let is : written (judgedOf deck (length list)) list ≡ map numberIn verdicts ++ drop (countOf deck) list = rw (h, a .as-many-verdicts) refl in (
+      ap (take (countOf deck)) is ∙ take-at (map numberIn verdicts) (drop (countOf deck) list) (countOf deck) many,
+      ap (drop (countOf deck)) is ∙ drop-at (map numberIn verdicts) (drop (countOf deck) list) (countOf deck) many,
+    )
