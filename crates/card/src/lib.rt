@@ -96,6 +96,13 @@ pub fn kind_of(number: u32) -> Named
     }
 }
 
+// The number that stands in a body from index at on; 0 where the body ends before.
+pub fn number(body: &[u8], at: usize) -> f64
+    ensures { λ r. ⌜ r ≡ numberAt (now (body .entry)) at ⌝ }
+{
+    exact::number(words::word(body, at))
+}
+
 // The problem with which a body begins, as numbers: every NaN word gives NaN.
 pub fn problem(body: &[u8]) -> Problem
     ensures { λ r. ⌜ r ≡ problemOf (now (body .entry)) ⌝ }
@@ -117,12 +124,6 @@ pub fn judge(kind: Kind, body: &[u8]) -> Verdict
         Kind::Solved => solved(body),
         Kind::Refused => refused(body),
     }
-}
-
-fn number(body: &[u8], at: usize) -> f64
-    ensures { λ r. ⌜ r ≡ numberAt (now (body .entry)) at ⌝ }
-{
-    exact::number(words::word(body, at))
 }
 
 fn vector(body: &[u8], at: usize) -> Vector

@@ -87,6 +87,7 @@ pub record Accepted (deck : List ℕ) (room : ℕ) (verdicts : List Said) : Type
   pub cards : List Card
   pub cards-are : cardsOf deck ≡ pass cards
   pub verdicts-are : verdicts ≡ verdictsOf cards
+  pub few : countOf deck ≤ 256
   pub enough : countOf deck ≤ room
   pub as-many-verdicts : length verdicts ≡ countOf deck
 
@@ -102,17 +103,28 @@ accepted-means deck room verdicts h =
       cards = C .0;
       cards-are = C .1;
       verdicts-are = sym is;
+      few = o .most;
       enough = leb-true (countOf deck) room (list .0);
       as-many-verdicts = sym (ap length is) ∙ length-map (C .0) (λ (c : Card). verdictOn (c .kind) (c .body)) ∙ many;
     }
 
--- "The three add up to the count."
-pub add-up : (deck : List ℕ) (room : ℕ) (totals : Totals) (r : Residuals) → answerOf deck room ≡ pass (totals, r) → totals .solved + totals .refused + totals .rejected ≡ countOf deck
+-- "The three add up to the count", which the list has room for
+pub record Fits (deck : List ℕ) (room : ℕ) (totals : Totals) : Type 0 where
+  pub add-up : totals .solved + totals .refused + totals .rejected ≡ countOf deck
+  pub few : countOf deck ≤ 256
+  pub enough : countOf deck ≤ room
+
+pub totals-fit : (deck : List ℕ) (room : ℕ) (totals : Totals) (r : Residuals) → answerOf deck room ≡ pass (totals, r) → Fits deck room totals
 unfolding answerOf
-add-up deck room totals r h =
+totals-fit deck room totals r h =
     let J = rows-passed (judgedOf deck room) (λ verdicts. pass (tallyOf verdicts)) h in
+    let a = accepted-means deck room (J .0) (J .1) in
     let is : tallyOf (J .0) ≡ (totals, r) = pass-once (J .2) in
-    sym (ap (λ (t : Totals × Residuals). t .0 .solved + t .0 .refused + t .0 .rejected) is) ∙ totals-add-up (J .0) ∙ accepted-means deck room (J .0) (J .1) .as-many-verdicts
+    record {
+      add-up = sym (ap (λ (t : Totals × Residuals). t .0 .solved + t .0 .refused + t .0 .rejected) is) ∙ totals-add-up (J .0) ∙ a .as-many-verdicts;
+      few = a .few;
+      enough = a .enough;
+    }
 
 -- ---- the list afterwards
 
@@ -137,3 +149,14 @@ accepted-writes deck list verdicts h =
       ap (take (countOf deck)) is ∙ take-at (map numberIn verdicts) (drop (countOf deck) list) (countOf deck) many,
       ap (drop (countOf deck)) is ∙ drop-at (map numberIn verdicts) (drop (countOf deck) list) (countOf deck) many,
     )
+
+-- any deck leaves it as long as it was
+as-long : (deck list : List ℕ) (m : Checked (List Said)) → judgedOf deck (length list) ≡ m → length (written m list) ≡ length list
+as-long deck list (pass verdicts) h =
+    let a = accepted-means deck (length list) verdicts h in
+    omega (arith, length-append (map numberIn verdicts) (drop (length verdicts) list), length-map verdicts numberIn, length-drop (length verdicts) list, a .as-many-verdicts, a .enough)
+as-long deck list (refuse k) h = refl
+
+pub list-as-long : (deck list : List ℕ) → length (listAfter deck list) ≡ length list
+unfolding listAfter
+list-as-long deck list = as-long deck list (judgedOf deck (length list)) refl

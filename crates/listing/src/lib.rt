@@ -4,19 +4,14 @@
 // 65,536 records are read from standard input. Input that ends inside a record ends the output
 // with the line `short`; input beyond the last place with the line `more`.
 //
-// Every function here is proved safe and to end. What is read and written is `io`'s, and no part of
-// a contract; what an answer is, the crates below promise.
+// Every function here is proved safe and to end. What is read and written is no part of a contract;
+// what an answer is, the crates below promise.
 use conic::Outcome;
 use conic::Problem;
 use conic::State;
 use conic::Vector;
-use libc::STDIN_FILENO;
-use libc::STDOUT_FILENO;
 use root::Answer;
-ghost use mathlib.Core.Path.{_≡_};
-ghost use Prim.Native.Nat.{_+_, _≤_, _<_};
-ghost use lib.ListN.{length};
-ghost use Rattle.io.specs.Counts.{Counts};
+ghost use Prim.Native.Nat.{_≤_};
 
 // What is asked of each record.
 pub enum Question {
@@ -55,27 +50,19 @@ fn width(asked: Question) -> usize
 fn block(asked: Question) -> bool {
     let mut space = [0u8; 4352];
     let size = 64 * width(asked);
-    let got = filled(&mut space, size);
+    let got = stdio::read(&mut space, size);
     let at = answers(asked, &space[..got]);
     if at < got {
-        io::write_all(STDOUT_FILENO, b"short\n");
+        stdio::text(b"short\n");
     }
     got == size
-}
-
-// Reads up to size bytes into space. Answers how many came.
-fn filled(space: &mut [u8], size: usize) -> usize
-    requires { ⌜ size ≤ length (now space) ⌝ }
-    ensures { λ r. ⌜ Counts r (now (space .exit)) ⌝ }
-{
-    io::read_full(STDIN_FILENO, &mut space[..size])
 }
 
 // The line for input beyond the last place, where there is any.
 fn beyond() {
     let mut space = [0u8; 1];
-    if 0 < io::read_full(STDIN_FILENO, &mut space) {
-        io::write_all(STDOUT_FILENO, b"more\n");
+    if 0 < stdio::read(&mut space, 1) {
+        stdio::text(b"more\n");
     }
 }
 
@@ -94,48 +81,24 @@ fn answers(asked: Question, s: &[u8]) -> usize {
 // The line of one record.
 fn answer(asked: Question, s: &[u8]) {
     match asked {
-        Question::Root => print_answer(root::root(number(s, 0))),
-        Question::Kepler => print_outcome(kepler::kepler(problem(s))),
-        Question::Theta => print_outcome(theta::theta(
-            number(s, 0),
-            vector(s, 8),
-            vector(s, 32),
-            number(s, 56),
-        )),
+        Question::Root => print_answer(root::root(card::number(s, 0))),
+        Question::Kepler => print_outcome(kepler::kepler(card::problem(s))),
+        Question::Theta => print_outcome(turned(card::problem(s))),
     }
-    io::write_all(STDOUT_FILENO, b"\n");
+    stdio::text(b"\n");
 }
 
-fn problem(s: &[u8]) -> Problem {
-    Problem {
-        mu: number(s, 0),
-        r: vector(s, 8),
-        v: vector(s, 32),
-        dt: number(s, 56),
-        limit: words::half(s, 64),
-    }
-}
-
-fn vector(s: &[u8], at: usize) -> Vector
-    requires { ⌜ at ≤ 32 ⌝ }
-{
-    Vector {
-        x: number(s, at),
-        y: number(s, at + 8),
-        z: number(s, at + 16),
-    }
-}
-
-fn number(s: &[u8], at: usize) -> f64 {
-    exact::number(words::word(s, at))
+// An angle problem has its angle where a problem has its time.
+fn turned(p: Problem) -> Outcome {
+    theta::theta(p.mu, p.r, p.v, p.dt)
 }
 
 // `root HEX` or `refused NUMBER`.
 fn print_answer(answer: Answer) {
     match answer {
         Answer::Root(x) => {
-            io::write_all(STDOUT_FILENO, b"root");
-            print_number(x);
+            stdio::text(b"root");
+            stdio::number(x);
         }
         Answer::Refused(why) => print_refused(why.number()),
     }
@@ -145,27 +108,27 @@ fn print_answer(answer: Answer) {
 fn print_outcome(outcome: Outcome) {
     match outcome {
         Outcome::Solved { x, count, state } => {
-            io::write_all(STDOUT_FILENO, b"solved");
-            print_count(count);
-            print_number(x);
+            stdio::text(b"solved");
+            stdio::count(count);
+            stdio::number(x);
             print_state(state);
         }
         Outcome::Refused(why, count) => {
             print_refused(why.number());
-            print_count(count);
+            stdio::count(count);
         }
         Outcome::RefusedWithBracket(why, count, lo, hi) => {
             print_refused(why.number());
-            print_count(count);
-            print_number(lo);
-            print_number(hi);
+            stdio::count(count);
+            stdio::number(lo);
+            stdio::number(hi);
         }
     }
 }
 
 fn print_refused(number: u32) {
-    io::write_all(STDOUT_FILENO, b"refused");
-    print_count(number);
+    stdio::text(b"refused");
+    stdio::count(number);
 }
 
 fn print_state(state: State) {
@@ -174,17 +137,7 @@ fn print_state(state: State) {
 }
 
 fn print_vector(v: Vector) {
-    print_number(v.x);
-    print_number(v.y);
-    print_number(v.z);
-}
-
-fn print_number(x: f64) {
-    io::write_all(STDOUT_FILENO, b" ");
-    io::print_hex(STDOUT_FILENO, exact::word(x), 16);
-}
-
-fn print_count(n: u32) {
-    io::write_all(STDOUT_FILENO, b" ");
-    io::print_decimal(STDOUT_FILENO, n as u64);
+    stdio::number(v.x);
+    stdio::number(v.y);
+    stdio::number(v.z);
 }
