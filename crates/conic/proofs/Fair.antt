@@ -2,11 +2,13 @@
 -- and the times kept for the ends are theirs, for the end 0 too. Forwards that is 0 to X, and backwards -X to 0.
 use mathlib.Core.Path.{_≡_, refl, sym, subst}
 use mathlib.Core.Bool.{Bool, true, false, cond}
+use lib.Dec.{T}
 use lib.Ieee.{Float, lt, le, neg}
-use Rattle.exact.specs.Numbers.{nought}
+use Rattle.exact.specs.Numbers.{nought, isFinite}
 use Rattle.search.specs.declared.Bracket.{Bracket}
+use Rattle.search.specs.Search.{within}
 use Rattle.search.proofs.Hunt.{pointAt}
-use Rattle.search.proofs.Laws.{Starts, forwards, backwards}
+use Rattle.search.proofs.Laws.{within-finite, Starts, forwards, backwards}
 use Rattle.conic.specs.declared.Problem.{Problem}
 use Rattle.conic.specs.declared.Scaled.{Scaled}
 use Rattle.conic.specs.Functions.{timeAt}
@@ -53,3 +55,7 @@ fair p o b e = subst (IsFair o) (sym (e .bracket-is)) (go (le nought (o .t)) ref
     go : (u : Bool) → le nought (o .t) ≡ u → IsFair o (startingBracket (o .t) (pointAt (timeAt o) (cond (le nought (o .t)) (e .far) (neg (e .far)))))
     go true h = rw h (to-far o (e .numbers) (e .far) far-is h (rw h at (e .far-reaches .reaches)))
     go false h = rw h (from-far o (e .numbers) (e .far) far-is h (rw h at (e .far-reaches .reaches)))
+
+-- so what lies in it is finite
+pub in-start-finite : (p : Problem) (o : Scaled) (b : Bracket) → Entered p o b → (x : Float) → within b x ≡ true → T (isFinite x)
+in-start-finite p o b e x w = let s = fair p o b e .starts in within-finite b x (s .lo-number) (s .hi-number) w

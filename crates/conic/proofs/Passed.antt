@@ -10,7 +10,7 @@ use lib.Ieee.{Float, binary64, lt, le, neg, fits}
 use lib.Ieee.Fits.{add-fits, sub-fits, div-fits}
 use lib.Ieee.Bits.{is-true}
 use Rattle.exact.specs.Numbers.{_⊕_, _⊖_, _⊗_, _⊘_, nought, two, isFinite, Number}
-use Rattle.exact.proofs.Basics.{both}
+use Rattle.exact.proofs.Basics.{passed, both}
 use Rattle.search.specs.declared.Bracket.{Bracket}
 use Rattle.search.proofs.Hunt.{pointAt}
 use Rattle.conic.specs.declared.Vector.{Vector}
@@ -23,6 +23,7 @@ use Rattle.conic.specs.Functions.{timeAt}
 use Rattle.conic.specs.Unfolding.{leastRatio, arrivalOf, ratioAt, stateAt, arrivalAt}
 use Rattle.conic.specs.Entry.{straight, inputsTested, radiusOf, unitOf, testedBy, scaledBy, scaledOf, farEndOf, startingBracket, bracketedBy, startOf, entryOf}
 use Rattle.conic.proofs.Rows.{pass-once, test-passed, rows-passed}
+use Rattle.conic.proofs.Fitting.{time-fits}
 
 -- ---- the scaled problem
 
@@ -123,6 +124,10 @@ entered p o b h =
       far-reaches = B .0;
       bracket-is = refl;
     })
+
+-- where the time at x is finite, it and the wanted one are numbers
+pub times-are : (p : Problem) (o : Scaled) (b : Bracket) → Entered p o b → (x : Float) → isFinite (timeAt o x) ≡ true → Number binary64 (timeAt o x) × Number binary64 (o .t)
+times-are p o b e x f = ((time-fits o x, passed f), e .numbers .t-number)
 
 -- ---- the arrival at x, both ways
 

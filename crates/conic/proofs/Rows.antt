@@ -1,6 +1,7 @@
--- Rows of tests: what the root's answer comes to in one, and what a row that passes says of each of its tests.
-use mathlib.Core.Path.{_≡_, refl, sym, ap, _∙_}
-use mathlib.Core.Bool.{Bool, true, false, true≢false}
+-- Rows of tests: what the root's answer comes to in one, what a row that passes says of each of its tests, and what each number has with which
+-- one can refuse.
+use mathlib.Core.Path.{_≡_, refl, sym, ap, _∙_, subst}
+use mathlib.Core.Bool.{Bool, true, false, cond, true≢false}
 use Prim.Native.Nat.{ℕ}
 use lib.Ieee.{Float}
 use Rattle.root.specs.declared.Answer.{Answer}
@@ -33,3 +34,27 @@ pub rows-passed : {A B : Type 0} (m : Checked A) (rest : A → Checked B) {y : B
 unfolding onward
 rows-passed (pass x) rest e = (x, refl, e)
 rows-passed (refuse k) rest e = absurd (true≢false cc)
+
+-- a row of tests that passes, or refuses with a number that has P
+pub data Refuses {A : Type 0} (P : ℕ → Type 0) : Checked A → Type 0 where
+  passes : {x : A} → Refuses P (pass x)
+  refuses : {k : ℕ} → P k → Refuses P (refuse k)
+
+module _ {A : Type 0} {P : ℕ → Type 0} where
+  pub guard-refuses : (t : Bool) (k : ℕ) (rest : Checked A) → P k → Refuses P rest → Refuses P (guard t k rest)
+  unfolding guard
+  guard-refuses true k rest p r = r
+  guard-refuses false k rest p r = refuses p
+
+  pub cond-refuses : (t : Bool) (m n : Checked A) → Refuses P m → Refuses P n → Refuses P (cond t m n)
+  cond-refuses true m n p q = p
+  cond-refuses false m n p q = q
+
+  pub onward-refuses : {B : Type 0} (m : Checked B) (rest : B → Checked A) → Refuses P m → ((x : B) → Refuses P (rest x)) → Refuses P (onward m rest)
+  unfolding onward
+  onward-refuses (pass x) rest p r = r x
+  onward-refuses (refuse k) rest (refuses p) r = refuses p
+
+  pub refusal-has : {m : Checked A} {k : ℕ} → Refuses P m → m ≡ refuse k → P k
+  refusal-has passes e = absurd (true≢false cc)
+  refusal-has (refuses p) e = subst P (cc) p

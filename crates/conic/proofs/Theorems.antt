@@ -23,7 +23,7 @@ use Rattle.conic.specs.declared.entry.Start.{Start}
 use Rattle.conic.specs.declared.entry.Start.the-variants as start
 use Rattle.conic.specs.Tests.{Checked, pass, refuse}
 use Rattle.conic.specs.Said.{Said, solved, refused, refusedWithBracket, numberOf, said, withState, arrived, passedScaled, passedStart}
-use Rattle.conic.specs.Unfolding.{arrivalOf}
+use Rattle.conic.specs.Unfolding.{arrivalOf, arrivalAt}
 use Rattle.conic.specs.Entry.{entryOf, angleEntryOf}
 
 -- ---- a reason by its number: a list from 0 on, where the numbers 0 and 13 are no prediction's
@@ -92,8 +92,14 @@ unarrived : (a : Arrival) → untold arrival.State arrival.Refused (arrived a) �
 unarrived (arrival.State state) = refl
 unarrived (arrival.Refused r) = ap arrival.Refused (reason-is r)
 
+arrived-once : {defined : Checked State} (a b : Arrival) → arrived a ≡ defined → arrived b ≡ defined → a ≡ b
+arrived-once a b p q = undone arrived (untold arrival.State arrival.Refused) unarrived a b (one-result p q)
+
 pub one-arrival : (o : Scaled) (u1 u2 ratio : Float) (a b : Arrival) → arrived a ≡ arrivalOf o u1 u2 ratio → arrived b ≡ arrivalOf o u1 u2 ratio → a ≡ b
-one-arrival o u1 u2 ratio a b p q = undone arrived (untold arrival.State arrival.Refused) unarrived a b (one-result p q)
+one-arrival o u1 u2 ratio a b p q = arrived-once a b p q
+
+pub one-arrival-at : (o : Scaled) (x : Float) (a b : Arrival) → arrived a ≡ arrivalAt o x → arrived b ≡ arrivalAt o x → a ≡ b
+one-arrival-at o x a b p q = arrived-once a b p q
 
 unscaled : (a : Scaling) → untold scaling.Passed scaling.Refused (passedScaled a) ≡ a
 unscaled (scaling.Passed o) = refl

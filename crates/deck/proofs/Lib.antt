@@ -4,3 +4,4 @@ pub mod Tallied
 pub mod Going
 pub mod Opened
 pub mod Theorems
+pub mod Worst

@@ -10,7 +10,7 @@ use lib.Dec.{T}
 use lib.Pow.{pow-pos}
 use lib.Ieee.{Float, nan, inf, fin, binary64, low, fits, neg, add, sub, lt, eq, le, ofBits}
 use lib.Ieee.Bits.{ofBits-fits}
-use Rattle.exact.specs.Numbers.{numberOf, tolerance, isFinite, Number, magnitude, isNear, minus, steps, distance, gap, inSteps}
+use Rattle.exact.specs.Numbers.{_⊖_, numberOf, tolerance, isFinite, Number, magnitude, isNear, minus, steps, distance, gap, inSteps}
 use Rattle.exact.proofs.Basics.{not-below}
 use Rattle.exact.proofs.Rounding.{rounded, nothing-nearer, rounded-le}
 use Rattle.exact.proofs.Order.{round-le}
@@ -30,6 +30,17 @@ near-finite (inf s) (fin t n d) h = absurd h
 near-finite (fin s m e) nan h = absurd h
 near-finite (fin s m e) (inf t) h = absurd h
 near-finite (fin s m e) (fin t n d) h = (tt, tt)
+
+-- and so is their difference
+small-finite : (z : Float) → T (le (magnitude z) tolerance) → T (isFinite z)
+unfolding magnitude le lt eq ofBits
+small-finite nan h = absurd h
+small-finite (inf s) h = absurd h
+small-finite (fin s m e) h = tt
+
+pub near-difference : (x y : Float) → T (isNear x y) → T (isFinite (x ⊖ y))
+unfolding isNear
+near-difference x y h = small-finite (x ⊖ y) h
 
 -- ---- the tolerance, and the number next above it
 

@@ -1,7 +1,8 @@
--- The laws of Kepler's answers. A guess is counted, and before the first one the count is 0 (`refused-before`, `counts`). Solved means near,
--- finite, allowed and in the starting bracket (`solved-means`). A refusal that names a bracket, 9 or 10, names one in the starting bracket
--- with the wanted time not outside the times of its ends (`bracket-means`), and the times kept beside them are theirs (`times-kept`). Each is
--- the law of the search, for the time of a scaled problem that passed the entry tests.
+-- The laws of Kepler's answers. A guess is counted, and before the first one the count is 0 (`refused-before`, `counts`). A refusal's number is
+-- not 0, and one byte holds it (`refusal-numbered`). Solved means near, finite, allowed and in the starting bracket (`solved-means`). A refusal
+-- that names a bracket, 9 or 10, names one in the starting bracket with the wanted time not outside the times of its ends (`bracket-means`), and
+-- the times kept beside them are theirs (`times-kept`). Each is the law of the search, for the time of a scaled problem that passed the entry
+-- tests.
 use mathlib.Core.Path.{_≡_, refl, ap, subst}
 use mathlib.Core.Logic.{_⊎_, inl, inr}
 use mathlib.Core.Bool.{true, false}
@@ -21,6 +22,8 @@ use Rattle.conic.specs.Said.{Said, solved, refused, refusedWithBracket, withSta
 use Rattle.conic.specs.Functions.{timeAt}
 use Rattle.conic.specs.Unfolding.{arrivalAt}
 use Rattle.conic.specs.Entry.{entryOf}
+use Rattle.conic.proofs.Rows.{Refuses, refusal-has}
+use Rattle.conic.proofs.Refusals.{Numbered, entry-refuses, arrival-refuses}
 use Rattle.conic.proofs.Passed.{entered, Arrives, arrives}
 use Rattle.conic.proofs.Fair.{fair}
 use Rattle.kepler.specs.Kepler.{arrivedAt, outcomeOf, foundIn, afterEntry, keplerOf}
@@ -79,14 +82,36 @@ module _ (p : Problem) (o : Scaled) (b : Bracket) (h : entryOf p ≡ pass (o, b)
 
 -- ---- every answer comes from the entry or from the end of a search
 
-by-origin : (P : Said → Type 0) (p : Problem) → ((k : ℕ) → P (refused k 0)) → ((o : Scaled) (b : Bracket) → entryOf p ≡ pass (o, b) → (e : search.Ended) → foundIn o (p .limit) b ≡ e → P (outcomeOf o e))
+by-origin : (P : Said → Type 0) (p : Problem) → ((k : ℕ) → entryOf p ≡ refuse k → P (refused k 0)) → ((o : Scaled) (b : Bracket) → entryOf p ≡ pass (o, b) → (e : search.Ended) → foundIn o (p .limit) b ≡ e → P (outcomeOf o e))
     → P (keplerOf p)
 unfolding keplerOf
 by-origin P p at-entry at-end = go (entryOf p) refl
   where
     go : (e : Checked (Scaled × Bracket)) → entryOf p ≡ e → P (afterEntry (p .limit) e)
     go (pass (o, b)) h = at-end o b h (foundIn o (p .limit) b) refl
-    go (refuse k) h = at-entry k
+    go (refuse k) h = at-entry k h
+
+-- ---- the number of a refusal
+
+-- what an answer says of its number, if it is a refusal
+abbrev pub RefusalNumbered : Said → Type 0
+RefusalNumbered (solved x n state) = Unit
+RefusalNumbered (refused k n) = Numbered k
+RefusalNumbered (refusedWithBracket k n lo hi) = Numbered k
+
+state-numbered : (x : Float) (n : ℕ) (c : Checked State) → Refuses Numbered c → RefusalNumbered (withState x n c)
+state-numbered x n (pass state) r = tt
+state-numbered x n (refuse k) r = refusal-has r refl
+
+end-numbered : (o : Scaled) (e : search.Ended) → RefusalNumbered (outcomeOf o e)
+unfolding arrivedAt
+end-numbered o (search.solved x n) = state-numbered x n (arrivalAt o x) (arrival-refuses o x)
+end-numbered o (search.closed b n) = tt
+end-numbered o (search.spent b n) = tt
+end-numbered o (search.lost n) = tt
+
+pub refusal-numbered : (p : Problem) → RefusalNumbered (keplerOf p)
+refusal-numbered p = by-origin RefusalNumbered p (λ k h. refusal-has (entry-refuses p) h) (λ o b h e f. end-numbered o e)
 
 -- ---- solved
 
@@ -127,7 +152,7 @@ end-solves p o b h (search.spent new n) f = tt
 end-solves p o b h (search.lost n) f = tt
 
 pub solved-means : (p : Problem) (x : Float) (n : ℕ) (state : State) → keplerOf p ≡ solved x n state → IsSolved p x state
-solved-means p x n state s = subst (Solves p) s (by-origin (Solves p) p (λ k. tt) (end-solves p))
+solved-means p x n state s = subst (Solves p) s (by-origin (Solves p) p (λ k h. tt) (end-solves p))
 
 -- ---- refused with a bracket
 
@@ -165,4 +190,4 @@ end-names p o b h (search.spent new n) f = named p o b h new (n, inr f) 10 n (in
 end-names p o b h (search.lost n) f = tt
 
 pub bracket-means : (p : Problem) (k n : ℕ) (lo hi : Float) → keplerOf p ≡ refusedWithBracket k n lo hi → IsNamed p k n lo hi
-bracket-means p k n lo hi s = subst (NamesWell p) s (by-origin (NamesWell p) p (λ k. tt) (end-names p))
+bracket-means p k n lo hi s = subst (NamesWell p) s (by-origin (NamesWell p) p (λ k h. tt) (end-names p))

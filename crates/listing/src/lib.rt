@@ -12,6 +12,8 @@ use conic::State;
 use conic::Vector;
 use root::Answer;
 ghost use Prim.Native.Nat.{_≤_};
+ghost use lib.ListN.{length};
+ghost use Rattle.io.specs.Counts.{Counts};
 
 // What is asked of each record.
 pub enum Question {
@@ -50,12 +52,20 @@ fn width(asked: Question) -> usize
 fn block(asked: Question) -> bool {
     let mut space = [0u8; 4352];
     let size = 64 * width(asked);
-    let got = stdio::read(&mut space, size);
+    let got = filled(&mut space, size);
     let at = answers(asked, &space[..got]);
     if at < got {
         stdio::text(b"short\n");
     }
     got == size
+}
+
+// Reads up to size bytes, for which there must be room. Answers how many came.
+fn filled(space: &mut [u8], size: usize) -> usize
+    requires { ⌜ size ≤ length (now space) ⌝ }
+    ensures { λ r. ⌜ Counts r (now (space .exit)) ⌝ }
+{
+    stdio::read(space, size)
 }
 
 // The line for input beyond the last place, where there is any.

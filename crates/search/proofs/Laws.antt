@@ -46,8 +46,11 @@ is-within : (b : Bracket) (x : Float) → (within b x ≡ true) ↔ (T (le (b .l
 is-within b x = both (le (b .lo .x) x) (le x (b .hi .x))
 
 -- between finite ends all is finite
+pub within-finite : (b : Bracket) (x : Float) → Number binary64 (b .lo .x) → Number binary64 (b .hi .x) → within b x ≡ true → T (isFinite x)
+within-finite b x l h w = let p = is-within b x .0 w in finite-between (b .lo .x) x (b .hi .x) (l .1) (h .1) (p .0) (p .1)
+
 in-between : (b : Bracket) (x : Float) → Number binary64 (b .lo .x) → Number binary64 (b .hi .x) → T (fits binary64 x) → T (le (b .lo .x) x) × T (le x (b .hi .x)) → In b x
-in-between b x l h w p = ((w, finite-between (b .lo .x) x (b .hi .x) (l .1) (h .1) (p .0) (p .1)), is-within b x .1 p)
+in-between b x l h w p = let i = is-within b x .1 p in ((w, within-finite b x l h i), i)
 
 -- what lies in a bracket whose ends lie in another lies in the other
 in-outer : (b₀ b : Bracket) (x : Float) → Number binary64 (b₀ .lo .x) → Number binary64 (b₀ .hi .x) → In b₀ (b .lo .x) → In b₀ (b .hi .x) → In b x → In b₀ x

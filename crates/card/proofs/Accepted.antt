@@ -1,0 +1,130 @@
+-- What verdict 0 means, and what gets it: document 01, demand 3. The tests of a card say it (`Tests`); the one on the times says that their exact
+-- gap is at most 2^-36 + 2^-89, and a gap of at most 2^-36 passes it.
+use mathlib.Core.Path.{_≡_, refl, sym, ap, subst}
+use mathlib.Core.Bool.{true, false, true≢false}
+use mathlib.Core.List.{List}
+use Prim.Native.Nat.{ℕ, _+_, _≤_}
+use lib.Ieee.{Float, binary64}
+use lib.Ieee.Bits.{is-true}
+use lib.Ieee.Fits.{sub-fits}
+use Rattle.exact.specs.Numbers.{_⊖_, isFinite, Number, magnitude, isNear, minus, gap, inSteps}
+use Rattle.exact.proofs.Basics.{passed}
+use Rattle.exact.proofs.Signs.{magnitude-plus}
+use Rattle.exact.proofs.Tolerance.{near-difference, gap-of-near, near-of-gap}
+use Rattle.search.specs.declared.Bracket.{Bracket}
+use Rattle.search.specs.Search.{within}
+use Rattle.conic.specs.declared.Scaled.{Scaled}
+use Rattle.conic.specs.Tests.{Checked, pass, refuse}
+use Rattle.conic.specs.Functions.{timeAt}
+use Rattle.conic.specs.Unfolding.{stateAt}
+use Rattle.conic.specs.Entry.{entryOf}
+use Rattle.conic.proofs.Passed.{entered, times-are, Arrives}
+use Rattle.conic.proofs.Fair.{in-start-finite}
+use Rattle.kepler.specs.Kepler.{keplerOf}
+use Rattle.card.specs.declared.Kind.{Kind}
+use Rattle.card.specs.declared.Kind.the-variants as kind
+use Rattle.card.specs.Fields.{problemOf, spareOf, xOf, refusalOf, lastSpareOf}
+use Rattle.card.specs.Said.{solved, numberIn}
+use Rattle.card.specs.Verdict.{solvedCard, isRefusedWith, refusedCard, asSolved, asRefused, verdictOn}
+use Rattle.card.proofs.StateWords.{stateWords, wordsOf}
+use Rattle.card.proofs.Tests.{solved-is, solved-passes, refused-tests}
+use Rattle.card.proofs.Rejected.{as-solved, zero-accepts}
+
+-- ---- a solved card
+
+pub record Accepted (body : List ℕ) (residual : Float) : Type 0 where
+  pub spare-is : spareOf body ≡ 0
+  pub o : Scaled
+  pub start : Bracket
+  pub entry : entryOf (problemOf body) ≡ pass (o, start)
+  pub x-finite : isFinite (xOf body) ≡ true
+  pub x-in : within start (xOf body) ≡ true
+  pub time-finite : isFinite (timeAt o (xOf body)) ≡ true
+  pub gap-small : gap binary64 (timeAt o (xOf body)) (o .t) ≤ inSteps 36 + inSteps 89
+  pub arrival : Arrives o (xOf body) (stateAt o (xOf body))
+  pub state-bits : stateWords body ≡ wordsOf (stateAt o (xOf body))
+  pub residual-is : residual ≡ magnitude (timeAt o (xOf body) ⊖ o .t)
+
+pub accepted-means : (body : List ℕ) (residual : Float) → verdictOn kind.Solved body ≡ solved residual → Accepted body residual
+unfolding verdictOn
+accepted-means body residual h =
+    let S = solved-is body residual (as-solved (solvedCard body) (pass residual) h) in
+    let o = S .0 in
+    let start = S .1 in
+    let p = S .2 in
+    let x = xOf body in
+    let e = entered (problemOf body) o start (p .entry) in
+    let n = times-are (problemOf body) o start e x (p .time-finite) in
+    record {
+      spare-is = p .spare-is;
+      o = o;
+      start = start;
+      entry = p .entry;
+      x-finite = is-true (isFinite x) (in-start-finite (problemOf body) o start e x (p .x-in));
+      x-in = p .x-in;
+      time-finite = p .time-finite;
+      gap-small = gap-of-near (timeAt o x) (o .t) (n .0) (n .1) (passed (p .near));
+      arrival = p .arrival;
+      state-bits = p .state-bits;
+      residual-is = S .3;
+    }
+
+pub verdict-zero-means : (body : List ℕ) → numberIn (verdictOn kind.Solved body) ≡ 0 → (residual : Float) × (verdictOn kind.Solved body ≡ solved residual) × Accepted body residual
+unfolding verdictOn
+verdict-zero-means body z = go (solvedCard body) refl
+  where
+    go : (c : Checked Float) → solvedCard body ≡ c → (residual : Float) × (verdictOn kind.Solved body ≡ solved residual) × Accepted body residual
+    go (pass residual) e = let h : verdictOn kind.Solved body ≡ solved residual = ap asSolved e in (residual, h, accepted-means body residual h)
+    go (refuse k) e = absurd (zero-accepts kind.Solved body z k (ap asSolved e))
+
+-- a card with an exact gap of at most 2^-36, whose state is the one that x unfolds to, bit for bit
+pub record GoodEnough (body : List ℕ) : Type 0 where
+  pub spare-is : spareOf body ≡ 0
+  pub o : Scaled
+  pub start : Bracket
+  pub entry : entryOf (problemOf body) ≡ pass (o, start)
+  pub x-in : within start (xOf body) ≡ true
+  pub time-finite : isFinite (timeAt o (xOf body)) ≡ true
+  pub arrival : Arrives o (xOf body) (stateAt o (xOf body))
+  pub state-bits : stateWords body ≡ wordsOf (stateAt o (xOf body))
+  pub gap-small : gap binary64 (timeAt o (xOf body)) (o .t) ≤ inSteps 36
+
+pub good-enough : (body : List ℕ) (g : GoodEnough body) → verdictOn kind.Solved body ≡ solved (magnitude (timeAt (g .o) (xOf body) ⊖ g .o .t))
+good-enough body g =
+    let o = g .o in
+    let x = xOf body in
+    let n = times-are (problemOf body) o (g .start) (entered (problemOf body) o (g .start) (g .entry)) x (g .time-finite) in
+    solved-passes body o (g .start) (record {
+      spare-is = g .spare-is;
+      entry = g .entry;
+      x-in = g .x-in;
+      time-finite = g .time-finite;
+      near = is-true (isNear (timeAt o x) (o .t)) (near-of-gap (timeAt o x) (o .t) (n .0) (n .1) (g .gap-small));
+      arrival = g .arrival;
+      state-bits = g .state-bits;
+    })
+
+-- ---- a refused card
+
+pub refused-means : (body : List ℕ) → numberIn (verdictOn kind.Refused body) ≡ 0 → (spareOf body ≡ 0) × (lastSpareOf body ≡ 0) × (isRefusedWith (keplerOf (problemOf body)) (refusalOf body) ≡ true)
+unfolding verdictOn
+refused-means body z = refused-tests body .0 (go (refusedCard body) refl)
+  where
+    go : (c : Checked (Unit {0})) → refusedCard body ≡ c → refusedCard body ≡ pass tt
+    go (pass good) e = e
+    go (refuse k) e = absurd (zero-accepts kind.Refused body z k (ap asRefused e))
+
+-- ---- the residual that is counted: a finite number without a minus
+
+never-solved : (c : Checked (Unit {0})) (r : Float) → asRefused c ≡ solved r → ⊥
+never-solved (pass good) r e = true≢false cc
+never-solved (refuse k) r e = true≢false cc
+
+pub residual-plus : (k : Kind) (body : List ℕ) (r : Float) → verdictOn k body ≡ solved r → Number binary64 r × (minus r ≡ false)
+unfolding verdictOn
+residual-plus kind.Solved body r h =
+    let S = solved-is body r (as-solved (solvedCard body) (pass r) h) in
+    let time = timeAt (S .0) (xOf body) in
+    let t = S .0 .t in
+    subst (λ (y : Float). Number binary64 y × (minus y ≡ false)) (sym (S .3)) (magnitude-plus (time ⊖ t) (sub-fits binary64 time t, near-difference time t (passed (S .2 .near))))
+residual-plus kind.Refused body r h = absurd (never-solved (refusedCard body) r h)

@@ -1,0 +1,149 @@
+-- Kepler's own answers pass: the card that a problem's bytes and Kepler's answer to it make has the problem in it, the zeros and the answer's
+-- numbers, so each test of the verdict finds what Kepler found. Any problem is some 68 bytes.
+use mathlib.Core.Path.{_≡_, refl, sym, ap, _∙_, subst}
+use mathlib.Core.Bool.{true}
+use mathlib.Core.List.{List, [], _∷_, _++_, append-nil}
+use Prim.Native.Nat.{ℕ, _+_, _*_}
+use native.Mathlib.Omega.{arith}
+use borrow.Author.Tests.{leb-true}
+use lib.Dec.{T, leb, ltb, eqb, ltb→lt, eqb-refl}
+use lib.ListN.{length, getD, length-append}
+use lib.Ieee.{Float, nan, binary64, fits}
+use lib.Ieee.Bits.{is-true, ofBits-toBits}
+use Rattle.exact.specs.Numbers.{numberOf, wordOf}
+use Rattle.words.specs.Words.{valueAt, bytesOf}
+use Rattle.words.proofs.Written.{length-bytes, valueAt-front, valueAt-back, valueAt-bytes, valueAt-last}
+use Rattle.conic.specs.declared.State.{State}
+use Rattle.conic.specs.declared.Problem.{Problem}
+use Rattle.conic.specs.Tests.{Checked}
+use Rattle.conic.specs.Said as conic
+use Rattle.conic.specs.Unfolding.{stateAt}
+use Rattle.conic.proofs.Refusals.{Numbered, numbered-is}
+use Rattle.conic.proofs.Fitting.{StateFits, ProblemFits, state-fits}
+use Rattle.conic.proofs.Passed.{Arrives}
+use Rattle.kepler.specs.Kepler.{keplerOf}
+use Rattle.kepler.proofs.Laws.{RefusalNumbered, refusal-numbered, IsSolved, solved-means}
+use Rattle.card.specs.declared.Kind.the-variants as kind
+use Rattle.card.specs.Fields.{sizeOf, problemOf, spareOf, xOf, refusalOf, lastSpareOf}
+use Rattle.card.specs.Said.{numberIn}
+use Rattle.card.specs.Verdict.{isRefusedWith, asRefused, verdictOn}
+use Rattle.card.specs.Made.{numbersBytes, problemBytes, spare, solvedBody, refusedBody, cardFor}
+use Rattle.card.proofs.StateWords.{stateWords, wordsOf}
+use Rattle.card.proofs.Tests.{solved-passes, refused-tests}
+use Rattle.card.proofs.Numbers.{AllFit, length-numbers, word-at, number-at}
+
+-- the numbers of a solved answer
+abbrev answer : Float → State → List Float
+answer x state = x ∷ state .r .x ∷ state .r .y ∷ state .r .z ∷ state .v .x ∷ state .v .y ∷ state .v .z ∷ []
+
+answer-fits : (x : Float) (state : State) → T (fits binary64 x) → StateFits state → AllFit (answer x state)
+answer-fits x state w f = (w, (f .0 .0, (f .0 .1, (f .0 .2, (f .1 .0, (f .1 .1, (f .1 .2, tt)))))))
+
+-- ---- a body: a problem's 68 bytes, the spare, and the rest
+
+module _ (given : List ℕ) (sized : length given ≡ 68) where
+  given-at : (rest : List ℕ) (k at : ℕ) → leb (at + k) 68 ≡ true → valueAt k (given ++ rest) at ≡ valueAt k given at
+  given-at rest k at h = valueAt-front k given rest at (rw sized (leb-true (at + k) 68 h))
+
+  given-problem : (rest : List ℕ) → problemOf (given ++ rest) ≡ problemOf given
+  unfolding problemOf
+  given-problem rest = simp (given-at rest)
+
+  behind-given : (rest : List ℕ) (k at : ℕ) → valueAt k (given ++ rest) (68 + at) ≡ valueAt k rest at
+  behind-given rest k at = rw sized at (valueAt-back k given rest at)
+
+  spare-is : (rest : List ℕ) → spareOf (given ++ (spare ++ rest)) ≡ 0
+  spare-is rest = behind-given (spare ++ rest) 4 0 ∙ valueAt-bytes 4 0 rest (omega arith)
+
+  behind-spare : (rest : List ℕ) (k at : ℕ) → valueAt k (given ++ (spare ++ rest)) (72 + at) ≡ valueAt k rest at
+  behind-spare rest k at =
+      let far : 72 + at ≡ 68 + (4 + at) = omega arith in
+      rw (far, behind-given (spare ++ rest) k (4 + at)) (rw (length-bytes 4 0) at (valueAt-back k spare rest at))
+
+  -- ---- the cards
+
+  pub made-problem : (said : conic.Said) → problemOf (cardFor given said .body) ≡ problemOf given
+  made-problem (conic.solved x n state) = given-problem _
+  made-problem (conic.refused k n) = given-problem _
+  made-problem (conic.refusedWithBracket k n lo hi) = given-problem _
+
+  refused-size : (k : ℕ) → length (refusedBody given k) ≡ 80
+  refused-size k = simp (length-append, length-bytes, sized)
+
+  pub made-size : (said : conic.Said) → length (cardFor given said .body) ≡ sizeOf (cardFor given said .kind)
+  unfolding sizeOf
+  made-size (conic.solved x n state) = simp (length-append, length-bytes, length-numbers, sized)
+  made-size (conic.refused k n) = refused-size k
+  made-size (conic.refusedWithBracket k n lo hi) = refused-size k
+
+  -- ---- a solved one
+
+  module _ (x : Float) (state : State) (w : AllFit (answer x state)) where
+    answer-at : (i : ℕ) → T (ltb i 7) → valueAt 8 (solvedBody given x state) (72 + 8 * i) ≡ wordOf (getD (answer x state) i nan)
+    answer-at i h =
+        behind-spare (numbersBytes (answer x state)) 8 (8 * i)
+        ∙ ap (λ (l : List ℕ). valueAt 8 l (8 * i)) (sym (append-nil (numbersBytes (answer x state))))
+        ∙ word-at (answer x state) [] w i (ltb→lt i 7 h)
+
+    x-read : xOf (solvedBody given x state) ≡ x
+    x-read = ap numberOf (answer-at 0 tt) ∙ ofBits-toBits binary64 x (w .0)
+
+    state-read : stateWords (solvedBody given x state) ≡ wordsOf state
+    state-read = rw (answer-at 1 tt, answer-at 2 tt, answer-at 3 tt, answer-at 4 tt, answer-at 5 tt, answer-at 6 tt)
+
+  solved-made : (x : Float) (state : State) → IsSolved (problemOf given) x state → numberIn (verdictOn kind.Solved (solvedBody given x state)) ≡ 0
+  solved-made x state s =
+      let o = s .o in
+      let is = s .arrival .state-is in
+      let w = answer-fits x state (s .in-start .0 .0) (subst StateFits is (state-fits o x)) in
+      let same-x = x-read x state w in
+      let arrival : Arrives o x (stateAt o x) = subst (Arrives o x) (sym is) (s .arrival) in
+      let state-bits : stateWords (solvedBody given x state) ≡ wordsOf (stateAt o x) = state-read x state w ∙ ap wordsOf (sym is) in
+      ap numberIn (solved-passes (solvedBody given x state) o (s .start) (record {
+        spare-is = spare-is _;
+        entry = rw (given-problem _) (s .entry);
+        x-in = rw same-x (s .in-start .1);
+        time-finite = rw same-x (s .finite);
+        near = rw same-x (s .near);
+        arrival = rw same-x arrival;
+        state-bits = rw same-x state-bits;
+      }))
+
+  -- ---- a refused one
+
+  refused-made : (k : ℕ) → Numbered k → isRefusedWith (keplerOf (problemOf given)) k ≡ true → numberIn (verdictOn kind.Refused (refusedBody given k)) ≡ 0
+  unfolding verdictOn
+  refused-made k small e =
+      let number : refusalOf (refusedBody given k) ≡ k = behind-spare (bytesOf 4 k ++ spare) 4 0 ∙ valueAt-bytes 4 k spare (omega (arith, numbered-is k small .1)) in
+      let last : lastSpareOf (refusedBody given k) ≡ 0 = behind-spare (bytesOf 4 k ++ spare) 4 4 ∙ rw length-bytes at (valueAt-last 4 0 (bytesOf 4 k) (omega arith)) in
+      ap (λ (c : Checked (Unit {0})). numberIn (asRefused c)) (refused-tests (refusedBody given k) .1 (spare-is _, last, rw (given-problem _, number) e))
+
+  pub made-passes : numberIn (verdictOn (cardFor given (keplerOf (problemOf given)) .kind) (cardFor given (keplerOf (problemOf given)) .body)) ≡ 0
+  made-passes = go (keplerOf (problemOf given)) refl
+    where
+      go : (s : conic.Said) → keplerOf (problemOf given) ≡ s → numberIn (verdictOn (cardFor given s .kind) (cardFor given s .body)) ≡ 0
+      go (conic.solved x n state) e = solved-made x state (solved-means (problemOf given) x n state e)
+      go (conic.refused k n) e = refused-made k (subst RefusalNumbered e (refusal-numbered (problemOf given))) (rw e (is-true (eqb k k) (eqb-refl k)))
+      go (conic.refusedWithBracket k n lo hi) e = refused-made k (subst RefusalNumbered e (refusal-numbered (problemOf given))) (rw e (is-true (eqb k k) (eqb-refl k)))
+
+-- ---- every problem is some 68 bytes
+
+abbrev numbersIn : Problem → List Float
+numbersIn p = p .mu ∷ p .r .x ∷ p .r .y ∷ p .r .z ∷ p .v .x ∷ p .v .y ∷ p .v .z ∷ p .dt ∷ []
+
+module _ (p : Problem) (f : ProblemFits p) where
+  given-fits : AllFit (numbersIn p)
+  given-fits = (f .mu-fits, (f .r-fits .0, (f .r-fits .1, (f .r-fits .2, (f .v-fits .0, (f .v-fits .1, (f .v-fits .2, (f .dt-fits, tt))))))))
+
+  given-number : (i : ℕ) → T (ltb i 8) → numberOf (valueAt 8 (problemBytes p) (8 * i)) ≡ getD (numbersIn p) i nan
+  given-number i h = number-at (numbersIn p) (bytesOf 4 (p .limit)) given-fits i (ltb→lt i 8 h)
+
+  given-limit : valueAt 4 (problemBytes p) 64 ≡ p .limit
+  given-limit = rw length-numbers at (valueAt-last 4 (p .limit) (numbersBytes (numbersIn p)) (f .limit-fits))
+
+  pub given-as-bytes : (length (problemBytes p) ≡ 68) × (problemOf (problemBytes p) ≡ p)
+  unfolding problemOf
+  given-as-bytes = (
+    simp (length-append, length-bytes, length-numbers),
+    rw (given-number 0 tt, given-number 1 tt, given-number 2 tt, given-number 3 tt, given-number 4 tt, given-number 5 tt, given-number 6 tt, given-number 7 tt, given-limit),
+  )
