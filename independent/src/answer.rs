@@ -19,6 +19,18 @@ pub enum Answer {
     },
 }
 
+impl Answer {
+    /// The number of a refusal. None where the problem is solved.
+    pub fn refusal(&self) -> Option<u32> {
+        match self {
+            Answer::Solved { .. } => None,
+            Answer::Refused { number, .. } | Answer::RefusedWithBracket { number, .. } => {
+                Some(*number)
+            }
+        }
+    }
+}
+
 impl fmt::Display for Answer {
     fn fmt(&self, f: &mut fmt::Formatter) -> fmt::Result {
         match self {

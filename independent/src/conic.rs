@@ -92,6 +92,13 @@ impl Orbit {
     /// Position and velocity, after refusal 11 and before refusal 6 of a component.
     pub fn unfold(&self, u1: f64, u2: f64, radius: f64) -> Result<[f64; 6], u32> {
         refuse(11, radius < LOW || radius.is_nan())?;
+        let state = self.state(u1, u2, radius);
+        refuse(6, !all_finite(&state))?;
+        Ok(state)
+    }
+
+    /// Position and velocity, untested.
+    pub fn state(&self, u1: f64, u2: f64, radius: f64) -> [f64; 6] {
         let f = 1.0 - u2;
         let g = u1 + self.s * u2;
         let ft = -u1 / radius / self.f4;
@@ -101,8 +108,7 @@ impl Orbit {
             state[i] = self.r[i] * f + (self.v[i] * self.f4) * g;
             state[3 + i] = self.r[i] * ft + self.v[i] * gt;
         }
-        refuse(6, !all_finite(&state))?;
-        Ok(state)
+        state
     }
 }
 

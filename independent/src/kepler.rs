@@ -5,24 +5,25 @@ use crate::conic::{inner_root, Orbit, Problem, Words};
 use crate::universal::{functions, Functions};
 
 /// A problem is 68 bytes: the words, then the limit.
+#[derive(Clone, Copy)]
 pub struct Input {
     pub words: Words,
     pub limit: u32,
 }
 
 /// What is searched for, and the bracket.
-struct Search {
-    orbit: Orbit,
-    t: f64,
-    lo: End,
-    hi: End,
+pub struct Search {
+    pub orbit: Orbit,
+    pub t: f64,
+    pub lo: End,
+    pub hi: End,
 }
 
 /// An end of the bracket, with its time.
 #[derive(Clone, Copy)]
-struct End {
-    x: f64,
-    time: f64,
+pub struct End {
+    pub x: f64,
+    pub time: f64,
 }
 
 /// How near T must come to t: 2^-36.
@@ -35,8 +36,8 @@ pub fn answer(input: &Input) -> Answer {
     }
 }
 
-/// The tests before the first guess, in their order.
-fn start(input: &Input) -> Result<Search, u32> {
+/// The tests before the first guess, in their order, and the starting bracket.
+pub fn start(input: &Input) -> Result<Search, u32> {
     let problem = Problem::read(&input.words)?;
     refuse(3, !(1..=100).contains(&input.limit))?;
     let orbit = problem.orbit()?;

@@ -42,29 +42,29 @@ pub fn all(chance: &mut Chance) -> Vec<Input> {
 }
 
 /// A motion that is scaled without rounding, so that its t is met to the last bit.
-struct Exact {
+pub struct Exact {
     words: Words,
-    orbit: Orbit,
-    far: f64,
+    pub orbit: Orbit,
+    pub far: f64,
 }
 
 impl Exact {
-    fn of(w: Vector, chance: &mut Chance) -> Option<Exact> {
+    pub fn of(w: Vector, chance: &mut Chance) -> Option<Exact> {
         let words = Frame::exact(chance).words(w, 0.0);
         let orbit = orbit_of(&words)?;
         let far = far_end(&orbit).ok()?;
         Some(Exact { words, orbit, far })
     }
 
-    fn time(&self, x: f64) -> f64 {
+    pub fn time(&self, x: f64) -> f64 {
         self.orbit.time(&functions(x, self.orbit.alpha))
     }
 
-    fn radius(&self, x: f64) -> f64 {
+    pub fn radius(&self, x: f64) -> f64 {
         self.orbit.radius(&functions(x, self.orbit.alpha))
     }
 
-    fn at(&self, t: f64) -> Words {
+    pub fn at(&self, t: f64) -> Words {
         with(self.words, SPAN, (t * self.orbit.f4).to_bits())
     }
 

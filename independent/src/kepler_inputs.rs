@@ -9,7 +9,7 @@ use crate::universal::{functions, Functions};
 
 /// The limits at the edges of what is allowed, some between, and some of which a part of the bytes
 /// would be allowed.
-const LIMITS: [u32; 11] = [
+pub const LIMITS: [u32; 11] = [
     0,
     1,
     2,

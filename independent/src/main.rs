@@ -2,21 +2,31 @@
 //! print is compared with what this program prints for the same inputs.
 
 mod answer;
+mod bytes;
+mod cards;
 mod chance;
 mod conic;
+mod damage;
+mod deck;
+mod deck_inputs;
+mod deck_suite;
 mod edges;
 mod kepler;
 mod kepler_edges;
 mod kepler_inputs;
 mod motion;
 mod reading;
+mod refused_cards;
 mod root;
 mod root_inputs;
+mod solved_cards;
 mod suite;
 mod theta;
 mod theta_inputs;
+mod ties;
 mod universal;
 
+use bytes::{joined, u32_at, words_from_bytes, words_to_bytes};
 use conic::Words;
 use std::io::{self, BufWriter, Write};
 use std::process::ExitCode;
@@ -26,7 +36,10 @@ const USAGE: &str = "\
 usage: independent NAME inputs                    the gate's inputs, in little-endian bytes
        independent NAME answers                   reads inputs, writes one line for each
        independent NAME random SEED COUNT [FROM]  COUNT inputs made from SEED, from place FROM on
-NAME is a proved program's: roots, predict or turn";
+NAME is a proved program's: roots, predict or turn. For decks, each a file NAME.deck:
+       independent check_deck inputs INTO         the gate's decks, into the folder INTO
+       independent check_deck answers DECKS INTO  for each deck of a folder a file NAME.listing
+       independent check_deck random SEED COUNT [FROM] INTO";
 
 const ROOTS: Suite<u64, 8> = Suite {
     fixed: root_inputs::fixed,
@@ -40,10 +53,9 @@ const PREDICT: Suite<kepler::Input, 68> = Suite {
     mixed: kepler_inputs::mixed,
     bytes: |input| joined(&words_to_bytes(&input.words), &input.limit.to_le_bytes()),
     line: |bytes| {
-        let (words, limit) = bytes.split_at(64);
         let input = kepler::Input {
-            words: words_from_bytes(words),
-            limit: u32::from_le_bytes(piece(limit)),
+            words: words_from_bytes(&bytes),
+            limit: u32_at(&bytes, 64),
         };
         kepler::answer(&input).to_string()
     },
@@ -67,6 +79,7 @@ fn main() -> ExitCode {
         ["roots", ref command @ ..] => ROOTS.run(&mut out, command),
         ["predict", ref command @ ..] => PREDICT.run(&mut out, command),
         ["turn", ref command @ ..] => TURN.run(&mut out, command),
+        ["check_deck", ref command @ ..] => deck_suite::run(command),
         _ => None,
     };
     let Some(done) = done else {
@@ -80,21 +93,4 @@ fn main() -> ExitCode {
             ExitCode::FAILURE
         }
     }
-}
-
-fn words_to_bytes(words: &Words) -> [u8; 64] {
-    joined(&words.map(u64::to_le_bytes).concat(), &[])
-}
-
-fn words_from_bytes(bytes: &[u8]) -> Words {
-    std::array::from_fn(|i| u64::from_le_bytes(piece(&bytes[8 * i..8 * i + 8])))
-}
-
-fn joined<const N: usize>(front: &[u8], back: &[u8]) -> [u8; N] {
-    piece(&[front, back].concat())
-}
-
-/// A slice that is known to have N bytes.
-fn piece<const N: usize>(bytes: &[u8]) -> [u8; N] {
-    bytes.try_into().expect("a slice of N bytes")
 }

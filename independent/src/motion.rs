@@ -176,10 +176,17 @@ pub fn orbit_of(words: &Words) -> Option<Orbit> {
 }
 
 /// The motion as it is, or the same run backwards.
-pub fn either_way(mut words: Words, chance: &mut Chance) -> Words {
-    let sign = chance.below(2) << 63;
+pub fn either_way(words: Words, chance: &mut Chance) -> Words {
+    if chance.below(2) == 0 {
+        words
+    } else {
+        backwards(words)
+    }
+}
+
+pub fn backwards(mut words: Words) -> Words {
     for word in &mut words[4..] {
-        *word ^= sign;
+        *word ^= 1 << 63;
     }
     words
 }
@@ -208,7 +215,7 @@ pub fn last(lo: f64, hi: f64, holds: impl Fn(f64) -> bool) -> Option<f64> {
 }
 
 /// Words that are no finite number: the infinities, and NaNs quiet and signalling, of either sign.
-const NOT_FINITE: [u64; 8] = [
+pub const NOT_FINITE: [u64; 8] = [
     0x7ff0_0000_0000_0000,
     0xfff0_0000_0000_0000,
     0x7ff8_0000_0000_0000,

@@ -54,7 +54,7 @@ fn is_nearest(r: f64, x: f64) -> bool {
 }
 
 /// A positive finite number as m * 2^e.
-fn parts(x: f64) -> (u128, i32) {
+pub fn parts(x: f64) -> (u128, i32) {
     let (field, fraction) = (
         (x.to_bits() >> 52 & 0x7ff) as i32,
         x.to_bits() & ((1 << 52) - 1),

@@ -27,17 +27,23 @@ impl<I, const N: usize> Suite<I, N> {
         }
     }
 
-    /// An input depends on the seed and its own place alone, so that a long run can be cut into
-    /// pieces and one input of it made again.
     fn random(&self, out: &mut impl Write, words: [&str; 3]) -> Option<io::Result<()>> {
-        let [Ok(seed), Ok(count), Ok(from)] = words.map(str::parse::<u64>) else {
-            return None;
-        };
-        let made = |place| (self.mixed)(&mut Chance::at(seed, from.wrapping_add(place)));
-        Some(self.write(out, (0..count).map(made)))
+        let inputs = row(words)?.map(|(_, mut chance)| (self.mixed)(&mut chance));
+        Some(self.write(out, inputs))
     }
 
     fn write(&self, out: &mut impl Write, mut inputs: impl Iterator<Item = I>) -> io::Result<()> {
         inputs.try_for_each(|input| out.write_all(&(self.bytes)(&input)))
     }
+}
+
+/// The places that SEED, COUNT and FROM name, each with its numbers. An input depends on the seed
+/// and its own place alone, so that a long run can be cut into pieces and one input of it made
+/// again.
+pub fn row(words: [&str; 3]) -> Option<impl Iterator<Item = (u64, Chance)>> {
+    let [Ok(seed), Ok(count), Ok(from)] = words.map(str::parse::<u64>) else {
+        return None;
+    };
+    let places = (0..count).map(move |i| from.wrapping_add(i));
+    Some(places.map(move |place| (place, Chance::at(seed, place))))
 }

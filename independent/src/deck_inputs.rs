@@ -1,0 +1,190 @@
+//! The decks that the check program is tried on.
+
+use crate::cards::{deck, Card};
+use crate::chance::Chance;
+use crate::conic::Vector;
+use crate::damage;
+use crate::kepler::{self, Input};
+use crate::kepler_inputs;
+use crate::motion::PLAIN;
+use crate::refused_cards as refused;
+use crate::solved_cards::{self as solved, Sort};
+use crate::ties;
+
+pub struct Deck {
+    /// What it is tried for.
+    pub name: &'static str,
+    pub bytes: Vec<u8>,
+}
+
+/// The sorts of cards, how many rounds of each the gate's decks have, and how many cards at most
+/// stand in one of these.
+const SORTS: [(&str, usize, u64, Sort); 19] = [
+    ("own", 200, 16, own),
+    ("moved", 60, 16, solved::moved),
+    ("other-ways", 200, 16, solved::other_ways),
+    ("state-bits", 3, 16, solved::state_bits),
+    ("about-bracket", 40, 16, solved::about_bracket),
+    ("about-ends", 20, 16, solved::about_ends),
+    ("x-not-finite", 12, 16, solved::not_finite),
+    ("about-near", 60, 16, solved::about_near),
+    ("about-near-by-time", 60, 16, solved::about_near_by_time),
+    ("about-tie", 60, 16, ties::about_tie),
+    ("about-low", 60, 16, solved::about_low),
+    ("beyond-velocity", 200, 16, solved::beyond_velocity),
+    ("no-time", 40, 2, solved::no_time),
+    ("still", 60, 16, solved::still),
+    ("numbers", 2, 16, refused::numbers),
+    ("as-solved", 30, 16, refused::as_solved),
+    ("not-finite", 4, 16, refused::not_finite),
+    ("limits", 10, 16, refused::limits),
+    ("spares", 4, 16, refused::spares),
+];
+
+/// The gate's decks, the same list in every run.
+pub fn fixed() -> Vec<Deck> {
+    let chance = &mut Chance::at(4, 0);
+    let mut list = named("trial", [deck_a(), Vec::new(), deck(&[])]);
+    list.extend(of_kepler(chance));
+    for (name, rounds, most, sort) in SORTS {
+        let cards: Vec<Card> = (0..rounds).flat_map(|_| sort(chance)).collect();
+        list.extend(named(name, dealt(&cards, most, chance)));
+    }
+    list.extend(named("rounded-down", rounded_down(chance)));
+    list.extend(damaged());
+    list.extend(long(chance));
+    list.extend((0..600).map(|_| mixed(chance)));
+    list
+}
+
+/// One deck of some kind. Most of them are not damaged.
+pub fn mixed(chance: &mut Chance) -> Deck {
+    let most = chance.one_of(&[1, 4, 16, 16, 64, 256]);
+    let count = chance.below(most + 1) as usize;
+    let mut cards = Vec::new();
+    while cards.len() < count {
+        cards.extend(few(chance));
+    }
+    let mut bytes = deck(&cards[..count]);
+    if chance.below(4) == 0 {
+        bytes = damage::by_chance(bytes, chance);
+    }
+    Deck {
+        name: "mixed",
+        bytes,
+    }
+}
+
+/// A few cards, of one sort. Many of them are Kepler's own answers.
+fn few(chance: &mut Chance) -> Vec<Card> {
+    let (_, _, _, any) = chance.one_of(&SORTS);
+    let sort = chance.one_of(&[own, any]);
+    let cards = sort(chance);
+    let first = chance.below(cards.len().max(1) as u64) as usize;
+    let count = 1 + chance.below(4) as usize;
+    cards.into_iter().skip(first).take(count).collect()
+}
+
+/// Kepler's own answer.
+fn own(chance: &mut Chance) -> Vec<Card> {
+    vec![Card::own(kepler_inputs::mixed(chance))]
+}
+
+/// Document 01's deck A.
+fn deck_a() -> Vec<u8> {
+    let problem = |v: Vector| Input {
+        words: PLAIN.words(v, 0.0),
+        limit: 20,
+    };
+    let round = |x: f64| {
+        let state = [x, 0.0, 0.0, 0.0, 1.0, 0.0].map(f64::to_bits);
+        Card::solved(problem([0.0, 1.0, 0.0]), 0, state)
+    };
+    let straight = Card::refused(problem([1.0, 0.0, 0.0]), 7);
+    deck(&[round(1.0), straight, round(2.0)])
+}
+
+/// Kepler's own inputs, mixed up: with its own answers in decks of each number of cards; those that
+/// it refuses as solved cards; those that it solves as refused ones.
+fn of_kepler(chance: &mut Chance) -> Vec<Deck> {
+    let mut problems = kepler_inputs::fixed();
+    for i in (1..problems.len()).rev() {
+        problems.swap(i, chance.below(i as u64 + 1) as usize);
+    }
+    let mut own = problems.iter().map(|problem| Card::own(*problem)).cycle();
+    let counts = (0..=256).map(|count| deck(&own.by_ref().take(count).collect::<Vec<Card>>()));
+    let mut list = named("every-count", counts);
+    let solved = |problem: &Input| kepler::answer(problem).refusal().is_none();
+    let (solved, refused): (Vec<Input>, Vec<Input>) = problems.into_iter().partition(solved);
+    let claimed: Vec<Card> = refused.into_iter().map(refused::claimed).collect();
+    list.extend(named("claimed", dealt(&claimed, 256, chance)));
+    let denied = solved
+        .into_iter()
+        .map(|input| refused::denied(input, chance));
+    let denied: Vec<Card> = denied.collect();
+    list.extend(named("denied", dealt(&denied, 256, chance)));
+    list
+}
+
+/// The cards, in their order, in decks of 1 to `most`.
+fn dealt(mut cards: &[Card], most: u64, chance: &mut Chance) -> Vec<Vec<u8>> {
+    let mut decks = Vec::new();
+    while !cards.is_empty() {
+        let count = (1 + chance.below(most) as usize).min(cards.len());
+        let (front, rest) = cards.split_at(count);
+        decks.push(deck(front));
+        cards = rest;
+    }
+    decks
+}
+
+/// Decks of those cards alone whose exact gap is more than 2^-36 and that are accepted.
+fn rounded_down(chance: &mut Chance) -> Vec<Vec<u8>> {
+    let cards = (0..40).flat_map(|_| ties::about_tie(chance));
+    let cards: Vec<Card> = cards.filter(ties::rounded_down).collect();
+    assert!(
+        cards.len() > 100,
+        "too few cards are rounded down: {}",
+        cards.len()
+    );
+    dealt(&cards, 16, chance)
+}
+
+fn damaged() -> Vec<Deck> {
+    let (a, empty) = (deck_a(), deck(&[]));
+    let trailing = (1..=40).map(|more| damage::lengthened(&a, a.len() + more, more as u8 & 1));
+    let short = (0..8).flat_map(|length| [0, 255].map(|byte| vec![byte; length]));
+    [
+        named("cut", damage::cut(&a)),
+        named("cut-empty", damage::cut(&empty)),
+        named("short", short),
+        named("byte", damage::each_byte(&a)),
+        named("field", damage::each_field(&a)),
+        named("field-empty", damage::each_field(&empty)),
+        named("pair", damage::pairs(&a)),
+        named("gap", damage::gaps(&a)),
+        named("swapped", damage::swapped(&a)),
+        named("trailing", trailing),
+    ]
+    .into_iter()
+    .flatten()
+    .collect()
+}
+
+/// The largest deck, and inputs about and beyond the most that is read.
+fn long(chance: &mut Chance) -> Vec<Deck> {
+    let solved = (0..256).map(|_| solved::solved(chance));
+    let largest = deck(&solved.collect::<Vec<Card>>());
+    let mut list = named("largest", [largest.clone()]);
+    for front in [&largest, &deck_a(), &deck(&[]), &vec![2]] {
+        let lengths = [35_847, 35_848, 35_849, 35_850, 70_000];
+        let filled = |fill: u8| lengths.map(|length| damage::lengthened(front, length, fill));
+        list.extend(named("long", [0, 255].into_iter().flat_map(filled)));
+    }
+    list
+}
+
+fn named(name: &'static str, decks: impl IntoIterator<Item = Vec<u8>>) -> Vec<Deck> {
+    let deck = |bytes| Deck { name, bytes };
+    decks.into_iter().map(deck).collect()
+}
