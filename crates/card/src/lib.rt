@@ -18,6 +18,20 @@ ghost use Rattle.card.specs.Fields.{kindOf, sizeOf, numberAt, vectorAt, 
 ghost use Rattle.card.specs.Said.{faultNumber, named, said, numberIn, refusalIn};
 ghost use Rattle.card.specs.Verdict.{sameWords, isRefusedWith, unfoldsTo, atX, solvedCard, refusedCard, asSolved, asRefused, verdictOn};
 
+// Where the fields of a body begin, behind the problem's 68 bytes: its spare; of a solved card x,
+// position and velocity; of a refused one the number and a spare.
+const SPARE: usize = 68;
+
+const X: usize = 72;
+
+const POSITION: usize = 80;
+
+const VELOCITY: usize = 104;
+
+const NUMBER: usize = 72;
+
+const LAST_SPARE: usize = 76;
+
 pub enum Kind {
     Solved,
     Refused,
@@ -140,7 +154,7 @@ fn vector(body: &[u8], at: usize) -> Vector
 fn solved(body: &[u8]) -> Verdict
     ensures { λ r. ⌜ said r ≡ asSolved (solvedCard (now (body .entry))) ⌝ }
 {
-    if words::half(body, 68) != 0 {
+    if words::half(body, SPARE) != 0 {
         return Verdict::Rejected(Fault::SpareNotZero.number());
     }
     let start = conic::entry::entry(problem(body));
@@ -164,7 +178,7 @@ fn own_refusal(start: Start) -> u32
 fn at_x(body: &[u8], o: Scaled, b: Bracket) -> Verdict
     ensures { λ r. ⌜ said r ≡ asSolved (atX (now (body .entry)) o b) ⌝ }
 {
-    let x = number(body, 72);
+    let x = number(body, X);
     if !(exact::finite(x) & search::contains(b, x)) {
         return Verdict::Rejected(Fault::XOutside.number());
     }
@@ -185,7 +199,7 @@ fn unfolds(body: &[u8], o: Scaled, x: f64, residual: f64) -> Verdict
     match conic::unfolding::arrive_at(o, x) {
         Arrival::Refused(why) => Verdict::Rejected(why.number()),
         Arrival::State(state) => {
-            if same(body, 80, state.r) & same(body, 104, state.v) {
+            if same(body, POSITION, state.r) & same(body, VELOCITY, state.v) {
                 Verdict::Solved(residual)
             } else {
                 Verdict::Rejected(Fault::StateDiffers.number())
@@ -207,10 +221,10 @@ fn same(body: &[u8], at: usize, a: Vector) -> bool
 fn refused(body: &[u8]) -> Verdict
     ensures { λ r. ⌜ said r ≡ asRefused (refusedCard (now (body .entry))) ⌝ }
 {
-    if !((words::half(body, 68) == 0) & (words::half(body, 76) == 0)) {
+    if !((words::half(body, SPARE) == 0) & (words::half(body, LAST_SPARE) == 0)) {
         return Verdict::Rejected(Fault::SpareNotZero.number());
     }
-    if !gives(kepler::kepler(problem(body)), words::half(body, 72)) {
+    if !gives(kepler::kepler(problem(body)), words::half(body, NUMBER)) {
         return Verdict::Rejected(Fault::NumberDiffers.number());
     }
     Verdict::Refused

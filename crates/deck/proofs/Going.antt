@@ -3,7 +3,7 @@
 use mathlib.Core.Path.{_≡_, refl, sym, ap, _∙_, subst}
 use mathlib.Core.Bool.{true≢false}
 use mathlib.Core.List.{List, [], _∷_, _++_, map}
-use Prim.Native.Nat.{ℕ, zero, suc, _+_, _-_, _*_, _≤_, _<_}
+use Prim.Native.Nat.{ℕ, suc, _+_, _-_, _≤_, _<_}
 use native.Mathlib.Nat.{zero-add, add-zero, le-of-eq}
 use native.Mathlib.Numerals.{add-one}
 use native.Mathlib.Omega.{arith}
@@ -18,8 +18,8 @@ use Rattle.card.specs.Said.{Said, numberIn}
 use Rattle.card.specs.Verdict.{verdictOn}
 use Rattle.deck.specs.declared.tally.Running.{Running}
 use Rattle.deck.specs.Contents.{entryAt, entryOf, cardsFrom, Passes}
-use Rattle.deck.specs.Tally.{nothing, counted, countedAll, residualsOf, totalsOf, tallyOf}
-use Rattle.deck.specs.Check.{verdictsOf, written}
+use Rattle.deck.specs.Tally.{nothing, counted, countedAll, residualsOf, totalsOf}
+use Rattle.deck.specs.Check.{verdictsOf, judgedFrom, tallied, written}
 use Rattle.deck.proofs.Tallied.{totalOf, one-counted}
 use Rattle.deck.proofs.Cards.{cardAt, entry-inside, one-more, no-more, as-many}
 
@@ -109,10 +109,10 @@ module _ {deck : List ℕ} {count : ℕ} {before list : List ℕ} {i at : ℕ} {
       let fits : 0 + length (numbers (g .all)) ≤ length before = omega (arith, many, verdicts-many) in
       sym (ap (λ (r : List Card). sets list i (numbers r)) (finished h)) ∙ g .written-on ∙ sets-eq (numbers (g .all)) before 0 fits ∙ ap (λ (k : ℕ). numbers (g .all) ++ drop k before) many
 
-  pub answer-is : count ≤ i → pass (totalsOf n, residualsOf n) ≡ onward (cardsFrom deck count 0 (entryAt count)) (λ cards. pass (tallyOf (verdictsOf cards)))
+  pub answer-is : count ≤ i → pass (totalsOf n, residualsOf n) ≡ tallied (judgedFrom deck count)
   unfolding onward
   answer-is h = rw (g .whole) (ap (λ (m : Running). pass (totalsOf m, residualsOf m)) (all-tallied h))
 
-  pub list-is : count ≤ i → count ≤ length before → list ≡ written (onward (cardsFrom deck count 0 (entryAt count)) (λ cards. pass (verdictsOf cards))) before
+  pub list-is : count ≤ i → count ≤ length before → list ≡ written (judgedFrom deck count) before
   unfolding onward
   list-is h room = rw (g .whole) (all-written h room)

@@ -1,5 +1,5 @@
 -- What the check comes to, once the contents are tested: the contents' refusal, 39, or the verdicts on the cards; and the verdict list with it.
-use mathlib.Core.Path.{_≡_, refl, sym, ap, _∙_}
+use mathlib.Core.Path.{_≡_, refl, sym, _∙_}
 use mathlib.Core.Bool.{true≢false}
 use mathlib.Core.List.{List}
 use Prim.Native.Nat.{ℕ, _≤_, _<_}
@@ -9,11 +9,8 @@ use lib.ListN.{length}
 use Rattle.conic.specs.Tests.{Checked, pass, refuse, guard, onward}
 use Rattle.conic.proofs.Rows.{pass-once, test-passed, rows-passed}
 use Rattle.card.specs.Fields.{Card}
-use Rattle.card.specs.Said.{Said}
-use Rattle.deck.specs.Contents.{entryAt, versionOf, countOf, cardsFrom, cardsOf, Passes}
-use Rattle.deck.specs.Tally.{tallyOf}
-use Rattle.deck.specs.Check.{verdictsOf, judgedOf, answerOf, written, listAfter}
-use Rattle.deck.proofs.Walking.{counting}
+use Rattle.deck.specs.Contents.{entryAt, versionOf, countOf, cardsFrom, cardsOf, counting, Passes}
+use Rattle.deck.specs.Check.{judgedFrom, judgedOf, tallied, answerOf, written, listAfter}
 
 -- a check that comes to a refusal hands out the number and leaves the list
 judged-refused : (deck list : List ℕ) (k : ℕ) → judgedOf deck (length list) ≡ refuse k → (refuse k ≡ answerOf deck (length list)) × (list ≡ listAfter deck list)
@@ -72,19 +69,10 @@ module _ (deck : List ℕ) (count : ℕ) (o : Opened deck count) (list : List �
   pub list-too-short : length list < count → (refuse 39 ≡ answerOf deck (length list)) × (list ≡ listAfter deck list)
   list-too-short h = judged-refused deck list 39 (too-short h (cardsFrom deck count 0 (entryAt count)) (o .passes) (o .cards-are))
 
-  -- the verdicts, or the contents' refusal, which there is none of
-  abbrev judged : Checked (List Said)
-  judged = onward (cardsFrom deck count 0 (entryAt count)) (λ cards. pass (verdictsOf cards))
-
-  room-enough : count ≤ length list → judgedOf deck (length list) ≡ judged
+  room-enough : count ≤ length list → judgedOf deck (length list) ≡ judgedFrom deck count
   unfolding guard onward judgedOf
   room-enough h = rw (o .cards-are, ← o .is, le-leb count (length list) h) refl
 
-  in-one-step : (m : Checked (List Card)) → onward m (λ cards. pass (tallyOf (verdictsOf cards))) ≡ onward (onward m (λ cards. pass (verdictsOf cards))) (λ verdicts. pass (tallyOf verdicts))
-  unfolding onward
-  in-one-step (pass cards) = refl
-  in-one-step (refuse k) = refl
-
-  pub accepted : count ≤ length list → (onward (cardsFrom deck count 0 (entryAt count)) (λ cards. pass (tallyOf (verdictsOf cards))) ≡ answerOf deck (length list)) × (written judged list ≡ listAfter deck list)
+  pub accepted : count ≤ length list → (tallied (judgedFrom deck count) ≡ answerOf deck (length list)) × (written (judgedFrom deck count) list ≡ listAfter deck list)
   unfolding answerOf listAfter
-  accepted h = (in-one-step (cardsFrom deck count 0 (entryAt count)) ∙ rw (room-enough h) refl, rw (room-enough h) refl)
+  accepted h = (rw (room-enough h) refl, rw (room-enough h) refl)

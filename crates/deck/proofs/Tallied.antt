@@ -1,7 +1,7 @@
 -- Laws of the tally. The three totals add up to the number of verdicts. A card that is not accepted as solved changes neither mean nor worst,
 -- wherever it stands: it leaves number, sum and largest as they are, and the cards after it see no more than these. Both are absent exactly
 -- where no card is solved.
-use mathlib.Core.Path.{_≡_, refl, sym, ap, _∙_}
+use mathlib.Core.Path.{_≡_, refl}
 use mathlib.Core.Logic.{_↔_}
 use mathlib.Core.Bool.{Bool, true, false, cond, true≢false}
 use mathlib.Core.List.{List, [], _∷_, _++_}
@@ -15,7 +15,7 @@ use lib.Ieee.{Float, binary64, ofInt}
 use Rattle.exact.specs.Numbers.{_⊘_}
 use Rattle.card.specs.Said.{Said, solved, refused, rejected}
 use Rattle.deck.specs.declared.tally.Running.{Running}
-use Rattle.deck.specs.Tally.{nothing, counted, countedAll, Residuals, absent, known, residualsOf}
+use Rattle.deck.specs.Tally.{nothing, counted, countedAll, absent, known, residualsOf}
 
 -- ---- the totals
 

@@ -22,13 +22,13 @@ use Rattle.deck.specs.declared.Residuals as declared
 use Rattle.deck.specs.declared.Residuals.the-variants as residuals
 use Rattle.deck.specs.declared.Answer.{Answer}
 use Rattle.deck.specs.declared.Answer.the-variants as answer
-use Rattle.deck.specs.Contents.{entryAt, countOf, cardsFrom, cardsOf}
+use Rattle.deck.specs.Contents.{entryAt, countOf, cardsOf}
 use Rattle.deck.specs.Tally.{Residuals, absent, known, tallyOf}
 use Rattle.deck.specs.Said.{numberOf, told, said}
-use Rattle.deck.specs.Check.{verdictsOf, judgedOf, answerOf, written, listAfter}
+use Rattle.deck.specs.Check.{verdictsOf, judgedOf, tallied, answerOf, written, listAfter}
 use Rattle.deck.proofs.Cards.{as-many}
 use Rattle.deck.proofs.Tallied.{totals-add-up}
-use Rattle.deck.proofs.Opened.{Opened, opened}
+use Rattle.deck.proofs.Opened.{opened}
 
 -- ---- coincidence
 
@@ -128,7 +128,7 @@ totals-fit deck room totals r h =
 
 -- ---- the list afterwards
 
-kept : (list : List ℕ) (m : Checked (List Said)) (k : ℕ) → onward m (λ verdicts. pass (tallyOf verdicts)) ≡ refuse k → written m list ≡ list
+kept : (list : List ℕ) (m : Checked (List Said)) (k : ℕ) → tallied m ≡ refuse k → written m list ≡ list
 unfolding onward
 kept list (pass verdicts) k e = absurd (true≢false cc)
 kept list (refuse n) k e = refl

@@ -1,6 +1,6 @@
 -- The loop that tests a deck's entries, turn by turn: what is left to be tested comes to what the whole comes to, a refusal or the count.
 use mathlib.Core.Path.{_≡_, refl, sym, ap, _∙_}
-use mathlib.Core.List.{List, [], _∷_}
+use mathlib.Core.List.{List, _∷_}
 use Prim.Native.Nat.{ℕ, suc, _+_, _-_, _≤_, _<_}
 use native.Mathlib.Omega.{arith}
 use borrow.Author.Tests.{eq-eqb, ne-eqb}
@@ -8,12 +8,8 @@ use lib.ListN.{length}
 use Rattle.conic.specs.Tests.{Checked, pass, refuse, guard, onward}
 use Rattle.card.specs.declared.Kind.{Kind}
 use Rattle.card.specs.Fields.{Card, sizeOf}
-use Rattle.deck.specs.Contents.{entryAt, entryOf, cardsFrom}
+use Rattle.deck.specs.Contents.{entryAt, entryOf, cardsFrom, counting}
 use Rattle.deck.proofs.Cards.{cardAt, entry-inside, and-rest, cards-are}
-
--- a refusal, or the count
-abbrev pub counting : (count : ℕ) → Checked (List Card) → Checked ℕ
-counting count m = onward m (λ cards. pass count)
 
 pub record Walking (deck : List ℕ) (count i at : ℕ) : Type 0 where
   pub few : i ≤ count

@@ -1,6 +1,6 @@
 -- The worst is the largest: it is one of the residuals, and none is larger. Residuals have no sign, so that their order is that of their
 -- steps; the 0 that the tally begins with is no larger than any, and where it stays, a residual is that 0.
-use mathlib.Core.Path.{_≡_, refl, sym, ap, _∙_, subst}
+use mathlib.Core.Path.{_≡_, refl, sym, _∙_, subst}
 use mathlib.Core.Logic.{_⊎_, inl, inr}
 use mathlib.Core.Bool.{Bool, true, false, cond, true≢false}
 use mathlib.Core.List.{List, [], _∷_}

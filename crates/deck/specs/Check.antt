@@ -8,12 +8,16 @@ use Rattle.card.specs.Fields.{Card}
 use Rattle.card.specs.Said.{Said, numberIn}
 use Rattle.card.specs.Verdict.{verdictOn}
 use Rattle.deck.specs.declared.Totals.{Totals}
-use Rattle.deck.specs.Contents.{countOf, cardsOf}
+use Rattle.deck.specs.Contents.{entryAt, countOf, cardsFrom, cardsOf}
 use Rattle.deck.specs.Tally.{Residuals, tallyOf}
 
 -- a verdict for each card, in deck order
 abbrev pub verdictsOf : List Card → List Said
 verdictsOf cards = map (λ (c : Card). verdictOn (c .kind) (c .body)) cards
+
+-- the same for `count` entries, from the first one on
+abbrev pub judgedFrom : List ℕ → (count : ℕ) → Checked (List Said)
+judgedFrom deck count = onward (cardsFrom deck count 0 (entryAt count)) (λ cards. pass (verdictsOf cards))
 
 -- the refusals of the contents, then "39 verdict list shorter than count"; a deck that passes is accepted
 unfoldable pub judgedOf : List ℕ → (room : ℕ) → Checked (List Said)
@@ -22,8 +26,12 @@ judgedOf deck room =
     guard (leb (countOf deck) room) 39
     (pass (verdictsOf cards)))
 
+-- the tally of the verdicts, or the refusal
+abbrev pub tallied : Checked (List Said) → Checked (Totals × Residuals)
+tallied m = onward m (λ verdicts. pass (tallyOf verdicts))
+
 unfoldable pub answerOf : List ℕ → (room : ℕ) → Checked (Totals × Residuals)
-answerOf deck room = onward (judgedOf deck room) (λ verdicts. pass (tallyOf verdicts))
+answerOf deck room = tallied (judgedOf deck room)
 
 -- "An accepted deck writes one verdict a card; places beyond the count keep their values." A refused deck leaves the list as it was lent.
 abbrev pub written : Checked (List Said) → List ℕ → List ℕ

@@ -55,6 +55,10 @@ cardsOf deck =
     (guard (leb (entryAt count) (length deck)) 33
     (cardsFrom deck count 0 (entryAt count)))))
 
+-- how many cards that is, or the refusal
+abbrev pub counting : (count : ℕ) → Checked (List Card) → Checked ℕ
+counting count m = onward m (λ cards. pass count)
+
 -- a deck's contents pass where they come to cards
 abbrev pub Passes : Checked (List Card) → Type 0
 Passes (pass cards) = Unit

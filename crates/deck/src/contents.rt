@@ -3,11 +3,19 @@ use crate::Reason;
 use card::Kind;
 use card::Named;
 ghost use mathlib.Core.Path.{_≡_};
-ghost use Prim.Native.Nat.{_+_, _*_, _≤_, _<_};
+ghost use Prim.Native.Nat.{_≤_};
 ghost use lib.ListN.{length};
-ghost use Rattle.conic.specs.Tests.{pass, onward};
 ghost use Rattle.deck.specs.Said.{entered, listed};
-ghost use Rattle.deck.specs.Contents.{entryAt, countOf, entryOf, cardsFrom, cardsOf};
+ghost use Rattle.deck.specs.Contents.{entryAt, countOf, entryOf, cardsFrom, cardsOf, counting};
+
+// The bytes before the first entry, and those of one.
+pub(crate) const HEADER: usize = 8;
+
+pub(crate) const ENTRY: usize = 12;
+
+const VERSION: u32 = 1;
+
+const MOST_CARDS: usize = 256;
 
 // What an entry says, where it stands right: its card's kind.
 pub(crate) enum Entry {
@@ -22,19 +30,19 @@ pub(crate) enum Contents {
 }
 
 pub(crate) fn tested(deck: &[u8]) -> Contents
-    ensures { λ r. ⌜ listed r ≡ onward (cardsOf (now (deck .entry))) (λ cards. pass (countOf (now (deck .entry)))) ⌝ }
+    ensures { λ r. ⌜ listed r ≡ counting (countOf (now (deck .entry))) (cardsOf (now (deck .entry))) ⌝ }
 {
-    if deck.len() < 8 {
+    if deck.len() < HEADER {
         return Contents::Refused(Reason::TooShort);
     }
-    if words::half(deck, 0) != 1 {
+    if words::half(deck, 0) != VERSION {
         return Contents::Refused(Reason::OtherVersion);
     }
     let count = words::half(deck, 4) as usize;
-    if 256 < count {
+    if MOST_CARDS < count {
         return Contents::Refused(Reason::TooManyCards);
     }
-    if deck.len() < 8 + 12 * count {
+    if deck.len() < HEADER + ENTRY * count {
         return Contents::Refused(Reason::ContentsPastEnd);
     }
     entries_tested(deck, count)
@@ -43,10 +51,10 @@ pub(crate) fn tested(deck: &[u8]) -> Contents
 // Each entry in turn, then the bytes left over.
 fn entries_tested(deck: &[u8], count: usize) -> Contents
     requires { ⌜ (count ≤ 256) × (entryAt count ≤ length (now deck)) ⌝ }
-    ensures { λ r. ⌜ listed r ≡ onward (cardsFrom (now (deck .entry)) count 0 (entryAt count)) (λ cards. pass count) ⌝ }
+    ensures { λ r. ⌜ listed r ≡ counting count (cardsFrom (now (deck .entry)) count 0 (entryAt count)) ⌝ }
 {
     let mut i = 0;
-    let mut at = 8 + 12 * count;
+    let mut at = HEADER + ENTRY * count;
     while i < count {
         match entry_at(deck, i, at) {
             Entry::Refused(why) => return Contents::Refused(why),
@@ -67,7 +75,7 @@ pub(crate) fn entry_at(deck: &[u8], i: usize, at: usize) -> Entry
     requires { ⌜ (i ≤ 256) × (at ≤ length (now deck)) ⌝ }
     ensures { λ r. ⌜ entered r ≡ entryOf (now (deck .entry)) i at ⌝ }
 {
-    let place = 8 + 12 * i;
+    let place = HEADER + ENTRY * i;
     let Named::Kind(kind) = card::kind_of(words::half(deck, place)) else {
         return Entry::Refused(Reason::UnknownKind);
     };

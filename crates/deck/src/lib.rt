@@ -8,18 +8,17 @@ use card::Kind;
 use card::Named;
 use card::Verdict;
 use contents::Contents;
+use contents::ENTRY;
 use contents::Entry;
-use tally::Running;
+use contents::HEADER;
 ghost use mathlib.Core.Path.{_≡_};
-ghost use Prim.Native.Nat.{_+_, _*_, _≤_, _<_};
+ghost use Prim.Native.Nat.{_≤_, _<_};
 ghost use lib.ListN.{length, set};
 ghost use Rattle.card.specs.Said as card;
 ghost use Rattle.card.specs.Verdict.{verdictOn};
-ghost use Rattle.conic.specs.Tests.{pass, onward};
 ghost use Rattle.deck.specs.Said.{numberOf, said};
 ghost use Rattle.deck.specs.Contents.{kindAt, entryAt, cardsFrom, Passes};
-ghost use Rattle.deck.specs.Tally.{tallyOf};
-ghost use Rattle.deck.specs.Check.{verdictsOf, answerOf, written, listAfter};
+ghost use Rattle.deck.specs.Check.{judgedFrom, tallied, answerOf, written, listAfter};
 
 mod contents;
 mod tally;
@@ -97,18 +96,18 @@ pub fn check(deck: &[u8], verdicts: &mut [u32]) -> Answer
 pub fn kind_at(deck: &[u8], i: u32) -> Named
     ensures { λ r. ⌜ card.named r ≡ kindAt (now (deck .entry)) i ⌝ }
 {
-    card::kind_of(words::half(deck, 8 + 12 * i as usize))
+    card::kind_of(words::half(deck, HEADER + ENTRY * i as usize))
 }
 
 // A verdict for each card of a deck whose contents passed, and the tally. No entry is refused here.
 fn judged(deck: &[u8], count: usize, verdicts: &mut [u32]) -> Answer
     requires { ⌜ (count ≤ 256) × (entryAt count ≤ length (now deck)) × (count ≤ length (now verdicts)) ⌝ }
     requires { ⌜ Passes (cardsFrom (now deck) count 0 (entryAt count)) ⌝ }
-    ensures { λ r. ⌜ said r ≡ onward (cardsFrom (now (deck .entry)) count 0 (entryAt count)) (λ cards. pass (tallyOf (verdictsOf cards))) ⌝ }
-    ensures { λ r. ⌜ now (verdicts .exit) ≡ written (onward (cardsFrom (now (deck .entry)) count 0 (entryAt count)) (λ cards. pass (verdictsOf cards))) (now (verdicts .entry)) ⌝ }
+    ensures { λ r. ⌜ said r ≡ tallied (judgedFrom (now (deck .entry)) count) ⌝ }
+    ensures { λ r. ⌜ now (verdicts .exit) ≡ written (judgedFrom (now (deck .entry)) count) (now (verdicts .entry)) ⌝ }
 {
     let mut i = 0;
-    let mut at = 8 + 12 * count;
+    let mut at = HEADER + ENTRY * count;
     let mut running = tally::none();
     while i < count {
         match contents::entry_at(deck, i, at) {

@@ -4,7 +4,6 @@
 // a contract.
 use libc::STDIN_FILENO;
 use libc::STDOUT_FILENO;
-ghost use Prim.Native.Nat.{_≤_};
 ghost use Rattle.io.specs.Counts.{Counts};
 
 // Reads into space, up to `most` bytes or as many as it holds, until they are there or the input

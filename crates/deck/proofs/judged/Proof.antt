@@ -21,12 +21,6 @@ Inv-loop deck count verdicts₀ i₀ at₀ running₀ verdicts i at running = Go
 abbrev μ-loop : tie.MeasureT-loop
 μ-loop deck count verdicts₀ i₀ at₀ running₀ verdicts i at running = count - i
 
-mul-at : tie.Need-mul-at Inv-loop μ-loop
-mul-at c = omega arith
-
-add-at : tie.Need-add-at Inv-loop μ-loop
-add-at c = omega arith
-
 loop-holds : tie.Need-loop-holds Inv-loop μ-loop
 loop-holds c = subst (λ (n : Running). Going (c .before .before .before .args .deck .now) (c .before .before .before .args .count) (c .before .before .before .args .verdicts .now) (c .before .before .before .args .verdicts .now) 0 (entryAt (c .before .before .before .args .count)) n) (sym (c .none .ensures)) (start (c .before .before .before .args .deck .now) (c .before .before .before .args .count) (c .before .before .before .args .verdicts .now) (c .before .before .before .pre .0 .1) (c .before .before .before .pre .1))
 
@@ -61,15 +55,6 @@ sub-judge-into c = omega (arith, place c)
 part-judge-into-start : tie.Need-part-judge-into-start Inv-loop μ-loop
 part-judge-into-start c = omega (arith, place c)
 
-part-judge-into-end : tie.Need-part-judge-into-end Inv-loop μ-loop
-part-judge-into-end c = omega arith
-
-sub-judge-into-2 : tie.Need-sub-judge-into-2 Inv-loop μ-loop
-sub-judge-into-2 c = omega arith
-
-part-judge-into-start-2 : tie.Need-part-judge-into-start-2 Inv-loop μ-loop
-part-judge-into-start-2 c = omega arith
-
 part-judge-into-end-2 : tie.Need-part-judge-into-end-2 Inv-loop μ-loop
 part-judge-into-end-2 c = omega (arith, room (c .before))
 
@@ -82,9 +67,6 @@ with-requires c κs = omega (arith, c .before .before .before .before .before .b
 add-i : tie.Need-add-i Inv-loop μ-loop
 add-i c = omega (arith, c .before .before .before .before .before .before .before .before .before .before .before .before .before .before .before .before .pre .0 .0)
 
-loop-less : tie.Need-loop-less Inv-loop μ-loop
-loop-less c = omega arith
-
 loop-again : tie.Need-loop-again Inv-loop μ-loop
 loop-again c = turn (c .before .before .before .before .before .before .before .before .before .before .before .before .loop .inv) (c .before .before .before .before .before .before .before .before .kind .given .0 .0) (c .before .before .before .before .before .before .size .result) (said (c .before .before .before .judge-into .result)) (c .before .before .before .judge-into .last .0) (c .with .result) (omega arith) (place (c .before .before .before .before .before .before)) (passed (c .before .before .before .before .before .before)) (c .before .before .before .before .before .before .size .ensures) (c .before .before .before .judge-into .ensures .0) (c .before .before .before .judge-into .ensures .1) (c .with .ensures)
 
@@ -95,4 +77,4 @@ returns-2 : tie.Need-returns-2 Inv-loop μ-loop
 returns-2 c = (c .closed .ensures ∙ answer-is (c .before .before .loop .inv) (omega arith), list-is (c .before .before .loop .inv) (omega arith) (c .before .before .before .before .before .before .pre .0 .2))
 
 pub judged-spec : {M : Type 1} → statement M
-judged-spec = tie.close (tie.spec Inv-loop μ-loop mul-at add-at (λ c κs. search needs) loop-holds entry-at-requires (λ c. search needs) same-length returns (λ c. search needs) (λ c κs. search needs) add-end mul-judge-into sub-judge-into part-judge-into-start part-judge-into-end sub-judge-into-2 part-judge-into-start-2 part-judge-into-end-2 judge-into-requires with-requires add-i loop-less loop-again (λ c κs. search needs) same-length-2 returns-2)
+judged-spec = tie.close (tie.spec Inv-loop μ-loop (λ c. omega arith) (λ c. omega arith) (λ c κs. search needs) loop-holds entry-at-requires (λ c. search needs) same-length returns (λ c. search needs) (λ c κs. search needs) add-end mul-judge-into sub-judge-into part-judge-into-start (λ c. omega arith) (λ c. omega arith) (λ c. omega arith) part-judge-into-end-2 judge-into-requires with-requires add-i (λ c. omega arith) loop-again (λ c κs. search needs) same-length-2 returns-2)

@@ -8,7 +8,7 @@ use borrow.Author.Needs.{needs}
 use borrow.Author.Tests.{not-true, not-false}
 use lib.Ieee.{Float}
 use Rattle.exact.specs.Numbers.{isFinite, isNear}
-use Rattle.search.specs.Said.{none, guess, closed, spent, said}
+use Rattle.search.specs.Said.{closed, spent, said}
 use Rattle.search.specs.Search.{narrowedBy, nextGuess, hunt, searchOf}
 use Rattle.search.proofs.Hunt.{pointAt}
 use Rattle.search.proofs.Turns.{turn-lost, turn-solved, turn-spent, turn-closed, turn-again}

@@ -18,12 +18,6 @@ Inv-loop deck count i₀ at₀ i at = Walking deck count i at
 abbrev μ-loop : tie.MeasureT-loop
 μ-loop deck count i₀ at₀ i at = count - i
 
-mul-at : tie.Need-mul-at Inv-loop μ-loop
-mul-at c = omega arith
-
-add-at : tie.Need-add-at Inv-loop μ-loop
-add-at c = omega arith
-
 loop-holds : tie.Need-loop-holds Inv-loop μ-loop
 loop-holds c = set-out (c .before .args .deck .now) (c .before .args .count) (c .before .pre .1)
 
@@ -46,9 +40,6 @@ add-at-2 c = omega (arith, room c)
 add-i : tie.Need-add-i Inv-loop μ-loop
 add-i c = omega (arith, c .before .before .before .before .before .before .loop .inv .few)
 
-loop-less : tie.Need-loop-less Inv-loop μ-loop
-loop-less c = omega arith
-
 loop-again : tie.Need-loop-again Inv-loop μ-loop
 loop-again c = subst (λ (n : ℕ). Walking (c .before .before .before .before .before .before .before .before .args .deck .now) (c .before .before .before .before .before .before .before .before .args .count) (c .before .before .before .before .before .before .loop .i + 1) (c .before .before .before .before .before .before .loop .at + n)) (sym (c .size .ensures)) (walk-on (c .before .before .before .before .before .before .loop .inv) (c .before .before .kind .given .0 .0) (omega arith) (passed (c)))
 
@@ -59,4 +50,4 @@ returns-3 : tie.Need-returns-3 Inv-loop μ-loop
 returns-3 c = all-read (c .before .before .loop .inv) (omega arith) (c .if1 .left)
 
 pub entries-tested-spec : {M : Type 1} → statement M
-entries-tested-spec = tie.close (tie.spec Inv-loop μ-loop mul-at add-at loop-holds entry-at-requires (λ c. search needs) returns (λ c. search needs) (λ c κs. search needs) add-at-2 add-i loop-less loop-again returns-2 returns-3)
+entries-tested-spec = tie.close (tie.spec Inv-loop μ-loop (λ c. omega arith) (λ c. omega arith) loop-holds entry-at-requires (λ c. search needs) returns (λ c. search needs) (λ c κs. search needs) add-at-2 add-i (λ c. omega arith) loop-again returns-2 returns-3)
