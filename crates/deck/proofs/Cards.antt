@@ -6,11 +6,11 @@ use Prim.Native.Nat.{ℕ, zero, suc, _+_, _≤_}
 use borrow.Author.Tests.{leb-true}
 use lib.Dec.{eqb, leb}
 use lib.ListN.{length, take, drop}
-use Rattle.conic.specs.Tests.{Checked, pass, guard, onward}
+use Rattle.conic.specs.Tests.{Checked, pass, refuse, guard, onward}
 use Rattle.conic.proofs.Rows.{pass-once, test-passed, rows-passed}
 use Rattle.card.specs.declared.Kind.{Kind}
 use Rattle.card.specs.Fields.{Card, sizeOf}
-use Rattle.deck.specs.Contents.{kindAt, offsetAt, lengthAt, entryOf, cardsFrom}
+use Rattle.deck.specs.Contents.{kindAt, offsetAt, lengthAt, entryOf, cardsFrom, Passes}
 
 -- the card of an entry that passed
 abbrev pub cardAt : List ℕ → Kind → (at : ℕ) → Card
@@ -51,6 +51,11 @@ module _ (deck : List ℕ) (left i at : ℕ) where
       let E = rows-passed (entryOf deck i at) and-rest (sym cards-are ∙ h) in
       let R = rows-passed (cardsFrom deck left (i + 1) (at + sizeOf (E .0))) (λ rest. pass (cardAt deck (E .0) at ∷ rest)) (E .2) in
       record { kind = E .0; rest = R .0; entry = E .1; others = R .1; cards-is = sym (pass-once (R .2)) }
+
+-- contents that pass come to cards
+pub come-to-cards : (m : Checked (List Card)) → Passes m → (cards : List Card) × (m ≡ pass cards)
+come-to-cards (pass cards) p = (cards, refl)
+come-to-cards (refuse k) p = absurd p
 
 -- after the last entry there are no cards
 pub no-more : (deck : List ℕ) (i at : ℕ) (cards : List Card) → cardsFrom deck zero i at ≡ pass cards → cards ≡ []

@@ -10,7 +10,7 @@ use native.Mathlib.Omega.{arith}
 use borrow.Rule.Slice.PartMut.{putMid, set-mid-at}
 use lib.ListN.{length, take, drop, set, length-drop, length-set, length-map}
 use lib.Seq.{length-take-le, sets, sets-eq}
-use Rattle.conic.specs.Tests.{Checked, pass, refuse, onward}
+use Rattle.conic.specs.Tests.{pass, refuse, onward}
 use Rattle.conic.proofs.Rows.{pass-once}
 use Rattle.card.specs.declared.Kind.{Kind}
 use Rattle.card.specs.Fields.{Card, sizeOf}
@@ -21,7 +21,7 @@ use Rattle.deck.specs.Contents.{entryAt, entryOf, cardsFrom, Passes}
 use Rattle.deck.specs.Tally.{nothing, counted, countedAll, residualsOf, totalsOf}
 use Rattle.deck.specs.Check.{verdictsOf, judgedFrom, tallied, written}
 use Rattle.deck.proofs.Tallied.{totalOf, one-counted}
-use Rattle.deck.proofs.Cards.{cardAt, entry-inside, one-more, no-more, as-many}
+use Rattle.deck.proofs.Cards.{cardAt, entry-inside, one-more, come-to-cards, no-more, as-many}
 
 -- while an entry is left, the part of the list that is lent on has a place
 pub some-left : (i : ℕ) (list : List ℕ) → i < length list → 0 < length (take (length list - i) (drop i list))
@@ -43,13 +43,9 @@ pub record Going (deck : List ℕ) (count : ℕ) (before list : List ℕ) (i at 
   pub as-long : length list ≡ length before
   pub total : totalOf n ≡ i
 
-passing : (m : Checked (List Card)) → Passes m → (cards : List Card) × (m ≡ pass cards)
-passing (pass cards) h = (cards, refl)
-passing (refuse k) h = absurd h
-
 pub start : (deck : List ℕ) (count : ℕ) (before : List ℕ) → entryAt count ≤ length deck → Passes (cardsFrom deck count 0 (entryAt count)) → Going deck count before before 0 (entryAt count) nothing
 start deck count before h p =
-    let w = passing (cardsFrom deck count 0 (entryAt count)) p in
+    let w = come-to-cards (cardsFrom deck count 0 (entryAt count)) p in
     let none-yet : count - 0 ≡ count = omega arith in
     record { all = w .0; whole = w .1; rest = w .0; left = rw none-yet (w .1); few = omega arith; inside = h; tally = refl; written-on = refl; as-long = refl; total = refl }
 
@@ -60,7 +56,8 @@ module _ {deck : List ℕ} {count : ℕ} {before list : List ℕ} {i at : ℕ} {
 
   pub never-refused : (k : ℕ) → i < count → entryOf deck i at ≡ refuse k → ⊥
   never-refused k h e =
-      let passed : pass (one-more deck (count - (i + 1)) i at (g .rest) (next h) .kind) ≡ refuse k = sym (one-more deck (count - (i + 1)) i at (g .rest) (next h) .entry) ∙ e in
+      let m = one-more deck (count - (i + 1)) i at (g .rest) (next h) in
+      let passed : pass (m .kind) ≡ refuse k = sym (m .entry) ∙ e in
       true≢false cc
 
   go-on : (kind : Kind) → i < count → entryOf deck i at ≡ pass kind → let v = verdictOn kind (cardAt deck kind at .body) in Going deck count before (set list i (numberIn v)) (i + 1) (at + sizeOf kind) (counted n v)

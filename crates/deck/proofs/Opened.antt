@@ -1,5 +1,5 @@
 -- What the check comes to, once the contents are tested: the contents' refusal, 39, or the verdicts on the cards; and the verdict list with it.
-use mathlib.Core.Path.{_≡_, refl, sym, _∙_}
+use mathlib.Core.Path.{_≡_, refl, sym, subst, _∙_}
 use mathlib.Core.Bool.{true≢false}
 use mathlib.Core.List.{List}
 use Prim.Native.Nat.{ℕ, _≤_, _<_}
@@ -11,6 +11,7 @@ use Rattle.conic.proofs.Rows.{pass-once, test-passed, rows-passed}
 use Rattle.card.specs.Fields.{Card}
 use Rattle.deck.specs.Contents.{entryAt, versionOf, countOf, cardsFrom, cardsOf, counting, Passes}
 use Rattle.deck.specs.Check.{judgedFrom, judgedOf, tallied, answerOf, written, listAfter}
+use Rattle.deck.proofs.Cards.{come-to-cards}
 
 -- a check that comes to a refusal hands out the number and leaves the list
 judged-refused : (deck list : List ℕ) (k : ℕ) → judgedOf deck (length list) ≡ refuse k → (refuse k ≡ answerOf deck (length list)) × (list ≡ listAfter deck list)
@@ -37,10 +38,6 @@ pub record Opened (deck : List ℕ) (count : ℕ) : Type 0 where
   pub cards-are : cardsOf deck ≡ cardsFrom deck count 0 (entryAt count)
   pub passes : Passes (cardsFrom deck count 0 (entryAt count))
 
-passing : (m : Checked (List Card)) (cards : List Card) → m ≡ pass cards → Passes m
-passing (pass all) cards h = tt
-passing (refuse k) cards h = absurd (true≢false cc)
-
 pub opened : (deck : List ℕ) (count : ℕ) → counting (countOf deck) (cardsOf deck) ≡ pass count → Opened deck count
 unfolding guard cardsOf
 opened deck count h =
@@ -57,17 +54,16 @@ opened deck count h =
       most = leb-true n 256 (third .0);
       inside = leb-true (entryAt n) (length deck) (fourth .0);
       cards-are = P .1 ∙ sym (fourth .1);
-      passes = passing cards (P .0) (fourth .1);
+      passes = subst Passes (sym (fourth .1)) tt;
     })
 
 module _ (deck : List ℕ) (count : ℕ) (o : Opened deck count) (list : List ℕ) where
-  too-short : length list < count → (m : Checked (List Card)) → Passes m → cardsOf deck ≡ m → judgedOf deck (length list) ≡ refuse 39
+  too-short : length list < count → judgedOf deck (length list) ≡ refuse 39
   unfolding guard onward judgedOf
-  too-short h (pass cards) p e = rw (e, ← o .is, lt-leb count (length list) h) refl
-  too-short h (refuse k) p e = absurd p
+  too-short h = rw (o .cards-are, come-to-cards (cardsFrom deck count 0 (entryAt count)) (o .passes) .1, ← o .is, lt-leb count (length list) h) refl
 
   pub list-too-short : length list < count → (refuse 39 ≡ answerOf deck (length list)) × (list ≡ listAfter deck list)
-  list-too-short h = judged-refused deck list 39 (too-short h (cardsFrom deck count 0 (entryAt count)) (o .passes) (o .cards-are))
+  list-too-short h = judged-refused deck list 39 (too-short h)
 
   room-enough : count ≤ length list → judgedOf deck (length list) ≡ judgedFrom deck count
   unfolding guard onward judgedOf

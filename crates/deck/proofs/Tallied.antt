@@ -3,11 +3,11 @@
 -- where no card is solved.
 use mathlib.Core.Path.{_≡_, refl}
 use mathlib.Core.Logic.{_↔_}
-use mathlib.Core.Bool.{Bool, true, false, cond, true≢false}
+use mathlib.Core.Bool.{Bool, true, false, true≢false}
 use mathlib.Core.List.{List, [], _∷_, _++_}
 use Prim.Native.Nat.{ℕ, _+_}
 use native.Mathlib.Omega.{arith}
-use borrow.Author.Tests.{eq-eqb, eqb-true}
+use borrow.Author.Tests.{eqb-true, eqb-false}
 use lib.Dec.{eqb}
 use lib.ListN.{length}
 use lib.IntN.{pos}
@@ -79,11 +79,22 @@ unsolved-changes-neither before v after u = same-residuals (countedAll nothing (
 
 -- ---- absent, never zero
 
--- by the test that the definition makes
-absent-by : (test : Bool) (mean worst : Float) → cond test absent (known mean worst) ≡ absent → test ≡ true
-absent-by true mean worst h = refl
-absent-by false mean worst h = absurd (true≢false cc)
+-- absent where no card is solved, and else known
+pub data Given (n : Running) : Type 0 where
+  neither : n .solved ≡ 0 → residualsOf n ≡ absent → Given n
+  both : (n .solved ≡ 0 → ⊥) → (mean : Float) → residualsOf n ≡ known mean (n .worst) → Given n
+
+pub given : (n : Running) → Given n
+unfolding residualsOf
+given n = go (eqb (n .solved) 0) refl
+  where
+    go : (test : Bool) → eqb (n .solved) 0 ≡ test → Given n
+    go true e = neither (eqb-true (n .solved) 0 e) (rw e refl)
+    go false e = both (eqb-false (n .solved) 0 e) (n .sum ⊘ ofInt binary64 (pos (n .solved))) (rw e refl)
 
 pub absent-exactly : (n : Running) → (residualsOf n ≡ absent) ↔ (n .solved ≡ 0)
-unfolding residualsOf
-absent-exactly n = ((λ h. eqb-true (n .solved) 0 (absent-by (eqb (n .solved) 0) (n .sum ⊘ ofInt binary64 (pos (n .solved))) (n .worst) h)), λ e. rw (eq-eqb (n .solved) 0 e) refl)
+absent-exactly n = go (given n)
+  where
+    go : Given n → (residualsOf n ≡ absent) ↔ (n .solved ≡ 0)
+    go (neither z a) = ((λ h. z), λ h. a)
+    go (both nz mean k) = ((λ h. absurd (true≢false cc)), λ z. absurd (nz z))

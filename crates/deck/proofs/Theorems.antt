@@ -109,12 +109,12 @@ accepted-means deck room verdicts h =
     }
 
 -- "The three add up to the count", which the list has room for
-pub record Fits (deck : List ℕ) (room : ℕ) (totals : Totals) : Type 0 where
+pub record TotalsFit (deck : List ℕ) (room : ℕ) (totals : Totals) : Type 0 where
   pub add-up : totals .solved + totals .refused + totals .rejected ≡ countOf deck
   pub few : countOf deck ≤ 256
   pub enough : countOf deck ≤ room
 
-pub totals-fit : (deck : List ℕ) (room : ℕ) (totals : Totals) (r : Residuals) → answerOf deck room ≡ pass (totals, r) → Fits deck room totals
+pub totals-fit : (deck : List ℕ) (room : ℕ) (totals : Totals) (r : Residuals) → answerOf deck room ≡ pass (totals, r) → TotalsFit deck room totals
 unfolding answerOf
 totals-fit deck room totals r h =
     let J = rows-passed (judgedOf deck room) (λ verdicts. pass (tallyOf verdicts)) h in

@@ -7,11 +7,9 @@ use mathlib.Core.List.{List, [], _∷_}
 use Prim.Native.Nat.{ℕ, _≤_}
 use native.Mathlib.Nat.{le-trans, le-of-eq, le-of-lt}
 use native.Mathlib.Omega.{arith}
-use borrow.Author.Tests.{eqb-false}
-use lib.Dec.{T, eqb}
-use lib.IntN.{pos}
-use lib.Ieee.{Float, binary64, lt, le, ofInt}
-use Rattle.exact.specs.Numbers.{_⊘_, nought, Number, minus, steps}
+use lib.Dec.{T}
+use lib.Ieee.{Float, binary64, lt, le}
+use Rattle.exact.specs.Numbers.{nought, Number, minus, steps}
 use Rattle.exact.proofs.Basics.{passed, failed}
 use Rattle.exact.proofs.Steps.{same-number}
 use Rattle.exact.proofs.Order.{plus-le, plus-lt, le-of-not-lt}
@@ -22,8 +20,9 @@ use Rattle.card.specs.Said.{Said, solved, refused, rejected}
 use Rattle.card.specs.Verdict.{verdictOn}
 use Rattle.card.proofs.Accepted.{residual-plus}
 use Rattle.deck.specs.declared.tally.Running.{Running}
-use Rattle.deck.specs.Tally.{nothing, larger, counted, countedAll, absent, known, residualsOf}
+use Rattle.deck.specs.Tally.{nothing, larger, counted, countedAll, known, residualsOf}
 use Rattle.deck.specs.Check.{verdictsOf, judgedOf}
+use Rattle.deck.proofs.Tallied.{Given, neither, both, given}
 use Rattle.deck.proofs.Theorems.{accepted-means}
 
 -- a number without a minus
@@ -119,12 +118,11 @@ some-solved n (refused ∷ verdicts) = some-solved (counted n refused) verdicts
 some-solved n (rejected k ∷ verdicts) = some-solved (counted n (rejected k)) verdicts
 
 known-worst : (n : Running) (mean worst : Float) → residualsOf n ≡ known mean worst → (n .solved ≡ 0 → ⊥) × (n .worst ≡ worst)
-unfolding residualsOf
-known-worst n mean worst h = go (eqb (n .solved) 0) refl h
+known-worst n mean worst h = go (given n)
   where
-    go : (t : Bool) → eqb (n .solved) 0 ≡ t → cond t absent (known (n .sum ⊘ ofInt binary64 (pos (n .solved))) (n .worst)) ≡ known mean worst → (n .solved ≡ 0 → ⊥) × (n .worst ≡ worst)
-    go true e k = absurd (true≢false cc)
-    go false e k = (eqb-false (n .solved) 0 e, cc)
+    go : Given n → (n .solved ≡ 0 → ⊥) × (n .worst ≡ worst)
+    go (neither z a) = absurd (true≢false cc)
+    go (both nz other k) = (nz, cc)
 
 pub worst-of-a-deck : (deck : List ℕ) (room : ℕ) (verdicts : List Said) (mean worst : Float) → judgedOf deck room ≡ pass verdicts → residualsOf (countedAll nothing verdicts) ≡ known mean worst → IsLargest verdicts worst
 worst-of-a-deck deck room verdicts mean worst h k =

@@ -17,6 +17,7 @@ pub fn read(space: &mut [u8], most: usize) -> usize
     io::read_full(STDIN_FILENO, &mut space[..most])
 }
 
+// The bytes as they are.
 pub fn text(bytes: &[u8]) {
     io::write_all(STDOUT_FILENO, bytes);
 }

@@ -3,13 +3,13 @@ use mathlib.Core.Path.{sym, ap, _∙_}
 use native.Mathlib.Omega.{arith}
 use lib.ListN.{length}
 use Rattle.deck.specs.Said.{told, said}
-use Rattle.deck.proofs.Theorems.{Fits, totals-fit, list-as-long}
+use Rattle.deck.proofs.Theorems.{TotalsFit, totals-fit, list-as-long}
 use borrow.Author.Needs.{needs}
 use Rattle.check_deck.proofs.list.Statement.{statement}
 use Rattle.check_deck.proofs.list.Tie as tie
 
 -- the deck was accepted, so the totals add up to its count, and the list has that many places
-fits : (c : tie.After-totals) → Fits (c .before .before .before .before .before .before .before .before .args .bytes .now) (length (c .before .before .before .before .before .before .before .before .args .verdicts .now)) (c .totals .given .0 .0)
+fits : (c : tie.After-totals) → TotalsFit (c .before .before .before .before .before .before .before .before .args .bytes .now) (length (c .before .before .before .before .before .before .before .before .args .verdicts .now)) (c .totals .given .0 .0)
 fits c = totals-fit (c .before .before .before .before .before .before .before .before .args .bytes .now) (length (c .before .before .before .before .before .before .before .before .args .verdicts .now)) (c .totals .given .0 .0) (told (c .totals .given .0 .1 .0)) (sym (c .before .before .before .before .check .ensures .0) ∙ ap said (c .totals .given .1))
 
 add-list-cards : tie.Need-add-list-cards
