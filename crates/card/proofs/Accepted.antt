@@ -15,7 +15,7 @@ use Rattle.search.specs.declared.Bracket.{Bracket}
 use Rattle.search.specs.Search.{within}
 use Rattle.conic.specs.declared.Scaled.{Scaled}
 use Rattle.conic.specs.Tests.{Checked, pass, refuse}
-use Rattle.conic.specs.Functions.{timeAt}
+use Rattle.conic.specs.TimeAndRatio.{timeAt}
 use Rattle.conic.specs.Unfolding.{stateAt}
 use Rattle.conic.specs.Entry.{entryOf}
 use Rattle.conic.proofs.Passed.{entered, times-are, Arrives}

@@ -17,7 +17,7 @@ use Rattle.search.specs.Search.{within}
 use Rattle.conic.specs.declared.State.{State}
 use Rattle.conic.specs.declared.Scaled.{Scaled}
 use Rattle.conic.specs.Tests.{pass, guard, onward}
-use Rattle.conic.specs.Functions.{timeAt}
+use Rattle.conic.specs.TimeAndRatio.{timeAt}
 use Rattle.conic.specs.Unfolding.{stateAt, arrivalAt}
 use Rattle.conic.specs.Entry.{entryOf}
 use Rattle.conic.proofs.Rows.{pass-once, test-passed, rows-passed}

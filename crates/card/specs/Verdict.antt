@@ -13,7 +13,7 @@ use Rattle.conic.specs.declared.State.{State}
 use Rattle.conic.specs.declared.Scaled.{Scaled}
 use Rattle.conic.specs.Tests.{Checked, pass, refuse, guard, onward}
 use Rattle.conic.specs.Said as conic
-use Rattle.conic.specs.Functions.{timeAt}
+use Rattle.conic.specs.TimeAndRatio.{timeAt}
 use Rattle.conic.specs.Unfolding.{arrivalAt}
 use Rattle.conic.specs.Entry.{entryOf}
 use Rattle.kepler.specs.Kepler.{keplerOf}

@@ -182,7 +182,7 @@ fn at_x(body: &[u8], o: Scaled, b: Bracket) -> Verdict
     if !(exact::finite(x) & search::contains(b, x)) {
         return Verdict::Rejected(Fault::XOutside.number());
     }
-    let time = conic::functions::time_at(o, x);
+    let time = o.time_at(x);
     if !exact::finite(time) {
         return Verdict::Rejected(Reason::NotFinite.number());
     }

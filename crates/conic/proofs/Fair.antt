@@ -11,7 +11,7 @@ use Rattle.search.proofs.Hunt.{pointAt}
 use Rattle.search.proofs.Laws.{within-finite, Starts, forwards, backwards}
 use Rattle.conic.specs.declared.Problem.{Problem}
 use Rattle.conic.specs.declared.Scaled.{Scaled}
-use Rattle.conic.specs.Functions.{timeAt}
+use Rattle.conic.specs.TimeAndRatio.{timeAt}
 use Rattle.conic.specs.Entry.{zeroEnd, startingBracket}
 use Rattle.conic.proofs.Passed.{Numbers, Entered}
 use Rattle.conic.proofs.AtZero.{time-at-zero, not-below-zero-time, not-above-zero-time}

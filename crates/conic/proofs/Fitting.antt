@@ -10,7 +10,8 @@ use Rattle.conic.specs.declared.State.{State}
 use Rattle.conic.specs.declared.Problem.{Problem}
 use Rattle.conic.specs.declared.Scaled.{Scaled}
 use Rattle.conic.specs.Vectors.{combined}
-use Rattle.conic.specs.Functions.{functionsAt, timeAt}
+use Rattle.universal.specs.Functions.{functionsAt}
+use Rattle.conic.specs.TimeAndRatio.{timeAt}
 use Rattle.conic.specs.Unfolding.{unfolded, stateAt}
 
 abbrev pub VectorFits : Vector → Type 0

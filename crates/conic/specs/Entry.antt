@@ -13,7 +13,7 @@ use Rattle.conic.specs.declared.Problem.{Problem}
 use Rattle.conic.specs.declared.Scaled.{Scaled}
 use Rattle.conic.specs.Tests.{Checked, pass, refuse, guard, onward}
 use Rattle.conic.specs.Vectors.{dot, allFinite, over, times}
-use Rattle.conic.specs.Functions.{timeAt}
+use Rattle.conic.specs.TimeAndRatio.{timeAt}
 
 -- 1. "an input number is NaN or infinite": none is. The last is the time or the angle.
 abbrev pub givenFinite : (mu : Float) (r v : Vector) (last : Float) → Bool

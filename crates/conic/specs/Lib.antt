@@ -1,7 +1,6 @@
 pub mod Tests
 pub mod Said
 pub mod Vectors
-pub mod Series
-pub mod Functions
+pub mod TimeAndRatio
 pub mod Unfolding
 pub mod Entry

@@ -6,7 +6,8 @@ use Rattle.conic.specs.declared.State.{State}
 use Rattle.conic.specs.declared.Scaled.{Scaled}
 use Rattle.conic.specs.Tests.{Checked, pass, guard}
 use Rattle.conic.specs.Vectors.{allFinite, times, combined}
-use Rattle.conic.specs.Functions.{one, functionsAt, ratioOf}
+use Rattle.universal.specs.Functions.{one, functionsAt}
+use Rattle.conic.specs.TimeAndRatio.{ratioAt}
 
 -- "F = 1 - U2; G = U1 + s*U2; Ft = ((-U1)/R)/f4; Gt = 1 - U2/R. Position = r*F + (v*f4)*G, velocity = r*Ft + v*Gt"
 unfoldable pub unfolded : Scaled → (u1 u2 ratio : Float) → State
@@ -29,10 +30,7 @@ arrivalOf o u1 u2 ratio =
     (guard (allFinite (state .r) && allFinite (state .v)) 6
     (pass state))
 
--- R(x), and the state that x unfolds to
-abbrev pub ratioAt : Scaled → (x : Float) → Float
-ratioAt o x = ratioOf (o .s) (functionsAt x (o .alpha))
-
+-- the state that x unfolds to
 abbrev pub stateAt : Scaled → (x : Float) → State
 stateAt o x = let u = functionsAt x (o .alpha) in unfolded o (u .u1) (u .u2) (ratioAt o x)
 

@@ -4,7 +4,6 @@ use crate::Problem;
 use crate::Reason;
 use crate::Scaled;
 use crate::Vector;
-use crate::functions;
 use crate::vectors;
 use root::Answer;
 use search::Bracket;
@@ -236,7 +235,7 @@ fn bracketed(o: Scaled, far: f64) -> Start
     ensures { λ x. ⌜ passedStart x ≡ bracketedBy o far ⌝ }
 {
     let t = o.t;
-    let time = functions::time_at(o, far);
+    let time = o.time_at(far);
     if !exact::finite(time) {
         return Start::Refused(Reason::NotFinite);
     }

@@ -1,15 +1,14 @@
-// The conic: from a state to the scaled problem and its entry tests, the universal functions, time
-// and radius ratio, and unfolding. Document 01, "From the state to the scaled problem" to
-// "Unfolding", and refusals 1 to 8, 11 and 14.
+// The conic: from a state to the scaled problem and its entry tests, and from the universal
+// functions back to a state. Document 01, "From the state to the scaled problem" and "Unfolding",
+// and refusals 1 to 8, 11 and 14.
 //
 // Every public function is proved and total: its contract is an equation with a definition of
 // `specs/`, for every input, NaN and infinities included. The crate assumes nothing.
 ghost use mathlib.Core.Path.{_≡_};
 ghost use Rattle.conic.specs.Said.{numberOf};
+ghost use Rattle.conic.specs.TimeAndRatio.{timeAt};
 
 pub mod entry;
-pub mod functions;
-pub mod series;
 pub mod unfolding;
 mod vectors;
 
@@ -44,6 +43,15 @@ pub struct Scaled {
     pub r0: f64,
     pub r: Vector,
     pub v: Vector,
+}
+
+impl Scaled {
+    // T(x): the scaled time.
+    pub fn time_at(self, x: f64) -> f64
+        ensures { λ r. ⌜ r ≡ timeAt self x ⌝ }
+    {
+        universal::time(self.s, universal::at(x, self.alpha))
+    }
 }
 
 // Why a prediction is refused.

@@ -4,7 +4,6 @@ use crate::Outcome;
 use crate::Reason;
 use crate::Scaled;
 use crate::State;
-use crate::functions;
 use crate::vectors;
 ghost use mathlib.Core.Path.{_≡_};
 ghost use Rattle.conic.specs.Said.{said, arrived, withState};
@@ -37,8 +36,8 @@ pub fn arrive(o: Scaled, u1: f64, u2: f64, ratio: f64) -> Arrival
 pub fn arrive_at(o: Scaled, x: f64) -> Arrival
     ensures { λ r. ⌜ arrived r ≡ arrivalAt o x ⌝ }
 {
-    let u = functions::universal(x, o.alpha);
-    arrive(o, u.u1, u.u2, functions::ratio(o.s, u))
+    let u = universal::at(x, o.alpha);
+    arrive(o, u.u1, u.u2, universal::ratio(o.s, u))
 }
 
 // A prediction's answer: the state with its x and count, or the refusal with the count.

@@ -19,7 +19,7 @@ use Rattle.conic.specs.declared.Scaled.{Scaled}
 use Rattle.conic.specs.declared.State.{State}
 use Rattle.conic.specs.Tests.{Checked, pass, refuse}
 use Rattle.conic.specs.Said.{Said, solved, refused, refusedWithBracket, withState}
-use Rattle.conic.specs.Functions.{timeAt}
+use Rattle.conic.specs.TimeAndRatio.{timeAt}
 use Rattle.conic.specs.Unfolding.{arrivalAt}
 use Rattle.conic.specs.Entry.{entryOf}
 use Rattle.conic.proofs.Rows.{Refuses, refusal-has}

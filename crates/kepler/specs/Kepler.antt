@@ -8,7 +8,7 @@ use Rattle.conic.specs.declared.Scaled.{Scaled}
 use Rattle.conic.specs.declared.Problem.{Problem}
 use Rattle.conic.specs.Tests.{Checked, pass, refuse}
 use Rattle.conic.specs.Said.{Said, refused, refusedWithBracket, withState}
-use Rattle.conic.specs.Functions.{timeAt}
+use Rattle.conic.specs.TimeAndRatio.{timeAt}
 use Rattle.conic.specs.Unfolding.{arrivalAt}
 use Rattle.conic.specs.Entry.{entryOf}
 

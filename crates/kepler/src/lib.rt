@@ -17,7 +17,7 @@ ghost use Prim.Native.Nat.{_≤_};
 ghost use Rattle.search.specs.Said.{ended};
 ghost use Rattle.search.specs.Search.{searchOf};
 ghost use Rattle.conic.specs.Said.{said};
-ghost use Rattle.conic.specs.Functions.{timeAt};
+ghost use Rattle.conic.specs.TimeAndRatio.{timeAt};
 ghost use Rattle.kepler.specs.Kepler.{arrivedAt, outcomeOf, keplerOf};
 
 // The state after dt, or the refusal.
@@ -43,7 +43,7 @@ fn hunt(o: Scaled, start: Bracket, limit: u32) -> Found
     let mut count = 0u32;
     'search: loop {
         count += 1;
-        let time = conic::functions::time_at(o, x);
+        let time = o.time_at(x);
         if !exact::finite(time) {
             break 'search Found::Lost(count);
         }

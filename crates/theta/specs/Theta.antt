@@ -6,7 +6,7 @@ use Rattle.conic.specs.declared.Vector.{Vector}
 use Rattle.conic.specs.declared.Scaled.{Scaled}
 use Rattle.conic.specs.Tests.{Checked, guard, onward}
 use Rattle.conic.specs.Said.{Said, withState}
-use Rattle.conic.specs.Functions.{one, functionsAt}
+use Rattle.universal.specs.Functions.{one, functionsAt}
 use Rattle.conic.specs.Unfolding.{arrivalOf}
 use Rattle.conic.specs.Entry.{rooted, angleEntryOf}
 

@@ -30,7 +30,7 @@ pub fn theta(mu: f64, r: Vector, v: Vector, a: f64) -> Outcome
 fn turned(o: Scaled, a: f64) -> Arrival
     ensures { λ x. ⌜ arrived x ≡ turnedState o a ⌝ }
 {
-    let half = conic::functions::universal(a / 2.0, 1.0);
+    let half = universal::at(a / 2.0, 1.0);
     match root::root(o.p) {
         Answer::Root(k) => reached(o, k, half.u1, half.u0),
         Answer::Refused(_) => Arrival::Refused(Reason::RootRefused),

@@ -6,8 +6,9 @@ use Rattle.root.specs.Whole.{wholeRoot}
 use Rattle.root.specs.Root.{radicand, nearestRoot, rootOf}
 use Rattle.search.specs.Search.{firstGuess, narrowedBy, nextGuess, hunt, searchOf}
 use Rattle.conic.specs.Tests.{guard, onward}
-use Rattle.conic.specs.Series.{coefficients, workedFrom, worked}
-use Rattle.conic.specs.Functions.{functionsAt, timeAt}
+use Rattle.universal.specs.Series.{coefficients, workedFrom, worked}
+use Rattle.universal.specs.Functions.{functionsAt}
+use Rattle.conic.specs.TimeAndRatio.{timeAt}
 use Rattle.conic.specs.Unfolding.{unfolded, arrivalOf, arrivalAt}
 use Rattle.conic.specs.Entry.{inputsTested, rooted, radiusOf, unitOf, testedBy, scaledBy, scaledOf, farEndOf, bracketedBy, startOf, entryOf}
 use Rattle.kepler.specs.Kepler.{arrivedAt, foundIn, keplerOf}

@@ -12,7 +12,7 @@ use Rattle.conic.specs.declared.Problem.{Problem}
 use Rattle.conic.specs.declared.Scaled.{Scaled}
 use Rattle.conic.specs.Tests.{pass, onward}
 use Rattle.conic.specs.Said.{Said, solved, refused, refusedWithBracket}
-use Rattle.conic.specs.Functions.{one, four, functionsAt, ratioOf}
+use Rattle.universal.specs.Functions.{one, four, functionsAt, ratioOf}
 use Rattle.conic.specs.Unfolding.{unfolded}
 use Rattle.conic.specs.Entry.{sixtyFour, eight, entryOf}
 use Rattle.kepler.specs.Kepler.{keplerOf}

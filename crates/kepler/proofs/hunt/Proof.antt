@@ -12,7 +12,7 @@ use Rattle.search.specs.Said.{closed, spent, said}
 use Rattle.search.specs.Search.{narrowedBy, nextGuess, hunt, searchOf}
 use Rattle.search.proofs.Hunt.{pointAt}
 use Rattle.search.proofs.Turns.{turn-lost, turn-solved, turn-spent, turn-closed, turn-again}
-use Rattle.conic.specs.Functions.{timeAt}
+use Rattle.conic.specs.TimeAndRatio.{timeAt}
 use Rattle.kepler.proofs.hunt.Statement.{statement}
 use Rattle.kepler.proofs.hunt.Tie as tie
 

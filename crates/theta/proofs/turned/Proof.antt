@@ -9,7 +9,7 @@ use Rattle.theta.proofs.turned.Tie as tie
 
 returns : tie.Need-returns
 unfolding onward turnedState
-returns c = c .reached .ensures ∙ sym (rw (root-given (c .before .before .before .before .before .before .args .o .p) (c .before .before .k .given .0 .0) (c .before .before .before .before .root .result) (c .before .before .before .before .root .ensures) (c .before .before .k .given .1), ← c .before .before .before .before .before .universal .ensures) refl)
+returns c = c .reached .ensures ∙ sym (rw (root-given (c .before .before .before .before .before .before .args .o .p) (c .before .before .k .given .0 .0) (c .before .before .before .before .root .result) (c .before .before .before .before .root .ensures) (c .before .before .k .given .1), ← c .before .before .before .before .before .at .ensures) refl)
 
 returns-2 : tie.Need-returns-2
 unfolding onward turnedState

@@ -19,8 +19,8 @@ use Rattle.exact.proofs.Steps.{steps-lt, same-number}
 use Rattle.exact.proofs.Rounding.{rounded, nothing-nearer, rounded-le, round-steps}
 use Rattle.exact.proofs.OneStep.{step, step-number, step-steps}
 use Rattle.exact.proofs.Zero.{positive-is}
-use Rattle.conic.specs.Series.{factorial, nearestInverse, inversesFrom, coefficients, sized, off, IsNearestInverse}
-use Rattle.conic.specs.Functions.{one}
+use Rattle.universal.specs.Series.{factorial, nearestInverse, inversesFrom, coefficients, sized, off, IsNearestInverse}
+use Rattle.universal.specs.Functions.{one}
 
 -- ---- n!
 

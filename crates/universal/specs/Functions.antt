@@ -1,9 +1,8 @@
 -- The universal functions, time and radius ratio: document 01, "The universal functions". Definitions only.
 use lib.Ieee.{Float}
 use Rattle.exact.specs.Numbers.{_⊕_, _⊖_, _⊗_, _⊘_, numberOf, two}
-use Rattle.conic.specs.declared.functions.Functions.{Functions}
-use Rattle.conic.specs.declared.Scaled.{Scaled}
-use Rattle.conic.specs.Series.{coefficients, worked}
+use Rattle.universal.specs.declared.Functions.{Functions}
+use Rattle.universal.specs.Series.{coefficients, worked}
 
 abbrev pub one : Float
 one = numberOf 0x3ff0_0000_0000_0000
@@ -38,7 +37,3 @@ timeOf s u = u .u1 ⊕ s ⊗ u .u2 ⊕ u .u3
 -- "Radius ratio R(x) = U0 + s*U1 + U2"
 abbrev pub ratioOf : (s : Float) → Functions → Float
 ratioOf s u = u .u0 ⊕ s ⊗ u .u1 ⊕ u .u2
-
--- T(x) of a scaled problem
-unfoldable pub timeAt : Scaled → Float → Float
-timeAt o x = timeOf (o .s) (functionsAt x (o .alpha))

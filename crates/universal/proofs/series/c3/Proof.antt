@@ -1,9 +1,9 @@
 -- `series::c3` meets its contract: antt computes the definition's table, entry by entry, and finds the code's.
 use borrow.Author.Needs.{needs}
 use lib.Ieee.{round, ofBits}
-use Rattle.conic.specs.Series.{coefficients}
-use Rattle.conic.proofs.series.c3.Statement.{statement}
-use Rattle.conic.proofs.series.c3.Tie as tie
+use Rattle.universal.specs.Series.{coefficients}
+use Rattle.universal.proofs.series.c3.Statement.{statement}
+use Rattle.universal.proofs.series.c3.Tie as tie
 
 returns : tie.Need-returns
 unfolding round ofBits coefficients

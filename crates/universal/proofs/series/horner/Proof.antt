@@ -6,9 +6,9 @@ use native.Mathlib.Omega.{arith}
 use lib.ListN.{getD}
 use lib.Ieee.{Float, nan, neg}
 use Rattle.exact.specs.Numbers.{_⊕_, _⊗_}
-use Rattle.conic.specs.Series.{workedFrom, worked}
-use Rattle.conic.proofs.series.horner.Statement.{statement}
-use Rattle.conic.proofs.series.horner.Tie as tie
+use Rattle.universal.specs.Series.{workedFrom, worked}
+use Rattle.universal.proofs.series.horner.Statement.{statement}
+use Rattle.universal.proofs.series.horner.Tie as tie
 
 abbrev Inv-loop : tie.InvT-loop
 Inv-loop z table sum₀ k₀ sum k = (k ≤ 11) × (workedFrom table z k sum ≡ worked table z)

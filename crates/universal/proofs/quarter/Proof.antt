@@ -1,8 +1,8 @@
--- `functions::quarter` meets its contract: what the series ensure, put in.
+-- `quarter` meets its contract: what the series ensure, put in.
 use mathlib.Core.Path.{refl}
 use borrow.Author.Needs.{needs}
-use Rattle.conic.proofs.functions.quarter.Statement.{statement}
-use Rattle.conic.proofs.functions.quarter.Tie as tie
+use Rattle.universal.proofs.quarter.Statement.{statement}
+use Rattle.universal.proofs.quarter.Tie as tie
 
 returns : tie.Need-returns
 returns c = rw (c .before .c2 .ensures, c .c3 .ensures) refl

@@ -1,8 +1,12 @@
-// The universal functions U0..U3, and the time and radius ratio made of them.
-use crate::Scaled;
-use crate::series;
+// The universal functions U0..U3, and the time and radius ratio made of them. Document 01, "The
+// universal functions".
+//
+// Every public function is proved and total: its contract is an equation with a definition of
+// `specs/`, for every input, NaN and infinities included. The crate assumes nothing.
 ghost use mathlib.Core.Path.{_≡_};
-ghost use Rattle.conic.specs.Functions.{quartered, doubledOnce, functionsAt, timeOf, ratioOf, timeAt};
+ghost use Rattle.universal.specs.Functions.{quartered, doubledOnce, functionsAt, timeOf, ratioOf};
+
+pub mod series;
 
 pub struct Functions {
     pub u0: f64,
@@ -12,7 +16,7 @@ pub struct Functions {
 }
 
 // U0..U3 at x: worked at x/4 and doubled twice.
-pub fn universal(x: f64, alpha: f64) -> Functions
+pub fn at(x: f64, alpha: f64) -> Functions
     ensures { λ r. ⌜ r ≡ functionsAt x alpha ⌝ }
 {
     doubled(alpha, doubled(alpha, quarter(x, alpha)))
@@ -58,11 +62,4 @@ pub fn ratio(s: f64, u: Functions) -> f64
     ensures { λ r. ⌜ r ≡ ratioOf s u ⌝ }
 {
     u.u0 + s * u.u1 + u.u2
-}
-
-// T(x) of a scaled problem.
-pub fn time_at(o: Scaled, x: f64) -> f64
-    ensures { λ r. ⌜ r ≡ timeAt o x ⌝ }
-{
-    time(o.s, universal(x, o.alpha))
 }

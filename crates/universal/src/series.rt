@@ -1,6 +1,6 @@
 // C2 and C3: document 01, "The universal functions". One loop works both, from k = 11 down.
 ghost use mathlib.Core.Path.{_≡_};
-ghost use Rattle.conic.specs.Series.{coefficients, worked};
+ghost use Rattle.universal.specs.Series.{coefficients, worked};
 
 // The binary64 numbers nearest 1/2!, 1/4!, .. 1/24!.
 const EVEN: [f64; 12] = [
