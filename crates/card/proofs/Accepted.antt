@@ -14,7 +14,7 @@ use Rattle.exact.proofs.Tolerance.{near-difference, gap-of-near, near-of-gap}
 use Rattle.search.specs.declared.Bracket.{Bracket}
 use Rattle.search.specs.Search.{within}
 use Rattle.conic.specs.declared.Scaled.{Scaled}
-use Rattle.conic.specs.Tests.{Checked, pass, refuse}
+use Rattle.rows.specs.Rows.{Checked, pass, refuse}
 use Rattle.conic.specs.TimeAndRatio.{timeAt}
 use Rattle.conic.specs.Unfolding.{stateAt}
 use Rattle.conic.specs.Entry.{entryOf}

@@ -15,7 +15,7 @@ use Rattle.words.specs.Words.{valueAt, bytesOf}
 use Rattle.words.proofs.Written.{length-bytes, valueAt-front, valueAt-back, valueAt-bytes, valueAt-last}
 use Rattle.conic.specs.declared.State.{State}
 use Rattle.conic.specs.declared.Problem.{Problem}
-use Rattle.conic.specs.Tests.{Checked}
+use Rattle.rows.specs.Rows.{Checked}
 use Rattle.conic.specs.Said as conic
 use Rattle.conic.specs.Unfolding.{stateAt}
 use Rattle.conic.proofs.Refusals.{Numbered, numbered-is}

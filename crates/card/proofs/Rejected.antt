@@ -7,8 +7,8 @@ use native.Mathlib.Omega.{arith}
 use lib.Ieee.{Float}
 use Rattle.search.specs.declared.Bracket.{Bracket}
 use Rattle.conic.specs.declared.Scaled.{Scaled}
-use Rattle.conic.specs.Tests.{Checked, pass, refuse}
-use Rattle.conic.proofs.Rows.{Refuses, passes, guard-refuses, onward-refuses, refusal-has}
+use Rattle.rows.specs.Rows.{Checked, pass, refuse}
+use Rattle.rows.proofs.Laws.{Refuses, passes, guard-refuses, onward-refuses, refusal-has}
 use Rattle.conic.proofs.Refusals.{Numbered, numbered-is, entry-refuses, arrival-refuses}
 use Rattle.card.specs.declared.Kind.{Kind}
 use Rattle.card.specs.declared.Kind.the-variants as kind

@@ -16,11 +16,11 @@ use Rattle.search.specs.declared.Bracket.{Bracket}
 use Rattle.search.specs.Search.{within}
 use Rattle.conic.specs.declared.State.{State}
 use Rattle.conic.specs.declared.Scaled.{Scaled}
-use Rattle.conic.specs.Tests.{pass, guard, onward}
+use Rattle.rows.specs.Rows.{pass, guard, onward}
 use Rattle.conic.specs.TimeAndRatio.{timeAt}
 use Rattle.conic.specs.Unfolding.{stateAt, arrivalAt}
 use Rattle.conic.specs.Entry.{entryOf}
-use Rattle.conic.proofs.Rows.{pass-once, test-passed, rows-passed}
+use Rattle.rows.proofs.Laws.{pass-once, test-passed, rows-passed}
 use Rattle.conic.proofs.Passed.{entered, Arrives, arrives}
 use Rattle.conic.proofs.Fair.{in-start-finite}
 use Rattle.kepler.specs.Kepler.{keplerOf}

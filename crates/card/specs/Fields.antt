@@ -8,7 +8,7 @@ use Rattle.exact.specs.Numbers.{numberOf}
 use Rattle.words.specs.Words.{valueAt}
 use Rattle.conic.specs.declared.Vector.{Vector}
 use Rattle.conic.specs.declared.Problem.{Problem}
-use Rattle.conic.specs.Tests.{Checked, pass, refuse}
+use Rattle.rows.specs.Rows.{Checked, pass, refuse}
 use Rattle.card.specs.declared.Kind.{Kind}
 use Rattle.card.specs.declared.Kind.the-variants as kind
 

@@ -1,7 +1,7 @@
 -- What the answers say, in document 01's numbers and values. Definitions only.
 use Prim.Native.Nat.{ℕ}
 use lib.Ieee.{Float}
-use Rattle.conic.specs.Tests.{Checked, pass, refuse}
+use Rattle.rows.specs.Rows.{Checked, pass, refuse}
 use Rattle.card.specs.declared.Kind.{Kind}
 use Rattle.card.specs.declared.Named.{Named}
 use Rattle.card.specs.declared.Named.the-variants as name

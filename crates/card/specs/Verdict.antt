@@ -11,7 +11,7 @@ use Rattle.search.specs.Search.{within}
 use Rattle.conic.specs.declared.Vector.{Vector}
 use Rattle.conic.specs.declared.State.{State}
 use Rattle.conic.specs.declared.Scaled.{Scaled}
-use Rattle.conic.specs.Tests.{Checked, pass, refuse, guard, onward}
+use Rattle.rows.specs.Rows.{Checked, pass, refuse, guard, onward}
 use Rattle.conic.specs.Said as conic
 use Rattle.conic.specs.TimeAndRatio.{timeAt}
 use Rattle.conic.specs.Unfolding.{arrivalAt}

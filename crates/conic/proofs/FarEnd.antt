@@ -22,7 +22,7 @@ use Rattle.exact.proofs.Zero.{positive-is}
 use Rattle.root.specs.Root.{radicand, sum, Nearest}
 use Rattle.root.proofs.Whole.{square-le}
 use Rattle.root.proofs.Theorems.{definition-holds}
-use Rattle.conic.specs.Tests.{pass, onward}
+use Rattle.rows.specs.Rows.{pass, onward}
 use Rattle.conic.specs.Entry.{rooted, sixtyFourth, sixtyFour, eight, farEndOf}
 
 -- a finite number that is not minus

@@ -17,12 +17,12 @@ use Rattle.conic.specs.declared.Vector.{Vector}
 use Rattle.conic.specs.declared.Problem.{Problem}
 use Rattle.conic.specs.declared.Scaled.{Scaled}
 use Rattle.conic.specs.declared.State.{State}
-use Rattle.conic.specs.Tests.{Checked, pass, guard, onward}
+use Rattle.rows.specs.Rows.{Checked, pass, guard, onward}
 use Rattle.conic.specs.Vectors.{dot, allFinite, over, times}
 use Rattle.conic.specs.TimeAndRatio.{timeAt, ratioAt}
 use Rattle.conic.specs.Unfolding.{leastRatio, arrivalOf, stateAt, arrivalAt}
 use Rattle.conic.specs.Entry.{straight, inputsTested, radiusOf, unitOf, testedBy, scaledBy, scaledOf, farEndOf, startingBracket, bracketedBy, startOf, entryOf}
-use Rattle.conic.proofs.Rows.{pass-once, test-passed, rows-passed}
+use Rattle.rows.proofs.Laws.{pass-once, test-passed, rows-passed}
 use Rattle.conic.proofs.Fitting.{time-fits}
 
 -- ---- the scaled problem

@@ -13,7 +13,7 @@ use Rattle.conic.specs.declared.Problem.{Problem}
 use Rattle.conic.specs.declared.Scaled.{Scaled}
 use Rattle.conic.specs.Unfolding.{arrivalOf, arrivalAt}
 use Rattle.conic.specs.Entry.{inputsTested, fromRoot, rooted, radiusOf, unitOf, testedBy, scaledBy, scaledOf, sixtyFourth, farEndOf, bracketedBy, startOf, entryOf}
-use Rattle.conic.proofs.Rows.{Refuses, passes, refuses, guard-refuses, cond-refuses, onward-refuses}
+use Rattle.rows.proofs.Laws.{Refuses, passes, refuses, guard-refuses, cond-refuses, onward-refuses}
 
 abbrev pub Numbered : ℕ → Type 0
 Numbered k = T (ltb 0 k && ltb k 256)

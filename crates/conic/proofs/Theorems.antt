@@ -21,7 +21,7 @@ use Rattle.conic.specs.declared.entry.Scaling.{Scaling}
 use Rattle.conic.specs.declared.entry.Scaling.the-variants as scaling
 use Rattle.conic.specs.declared.entry.Start.{Start}
 use Rattle.conic.specs.declared.entry.Start.the-variants as start
-use Rattle.conic.specs.Tests.{Checked, pass, refuse}
+use Rattle.rows.specs.Rows.{Checked, pass, refuse}
 use Rattle.conic.specs.Said.{Said, solved, refused, refusedWithBracket, numberOf, said, withState, arrived, passedScaled, passedStart}
 use Rattle.conic.specs.Unfolding.{arrivalOf, arrivalAt}
 use Rattle.conic.specs.Entry.{entryOf, angleEntryOf}

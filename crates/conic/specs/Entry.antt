@@ -11,7 +11,7 @@ use Rattle.search.specs.declared.Bracket.{Bracket}
 use Rattle.conic.specs.declared.Vector.{Vector}
 use Rattle.conic.specs.declared.Problem.{Problem}
 use Rattle.conic.specs.declared.Scaled.{Scaled}
-use Rattle.conic.specs.Tests.{Checked, pass, refuse, guard, onward}
+use Rattle.rows.specs.Rows.{Checked, pass, refuse, guard, onward}
 use Rattle.conic.specs.Vectors.{dot, allFinite, over, times}
 use Rattle.conic.specs.TimeAndRatio.{timeAt}
 

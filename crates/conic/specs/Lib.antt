@@ -1,4 +1,3 @@
-pub mod Tests
 pub mod Said
 pub mod Vectors
 pub mod TimeAndRatio

@@ -20,7 +20,7 @@ use Rattle.conic.specs.declared.entry.Scaling.{Scaling}
 use Rattle.conic.specs.declared.entry.Scaling.the-variants as scaling
 use Rattle.conic.specs.declared.entry.Start.{Start}
 use Rattle.conic.specs.declared.entry.Start.the-variants as start
-use Rattle.conic.specs.Tests.{Checked, pass, refuse}
+use Rattle.rows.specs.Rows.{Checked, pass, refuse}
 
 -- "Refusal numbers"
 abbrev pub numberOf : Reason → ℕ

@@ -1,12 +1,12 @@
 -- From the functions to a state: document 01, "Unfolding", and what "The search", step 2, and Theta test there. Definitions only.
 use mathlib.Core.Bool.{_&&_}
 use lib.Ieee.{Float, le, neg}
-use Rattle.exact.specs.Numbers.{_⊕_, _⊖_, _⊗_, _⊘_, numberOf}
+use Rattle.exact.specs.Numbers.{_⊕_, _⊖_, _⊗_, _⊘_, numberOf, one}
 use Rattle.conic.specs.declared.State.{State}
 use Rattle.conic.specs.declared.Scaled.{Scaled}
-use Rattle.conic.specs.Tests.{Checked, pass, guard}
+use Rattle.rows.specs.Rows.{Checked, pass, guard}
 use Rattle.conic.specs.Vectors.{allFinite, times, combined}
-use Rattle.universal.specs.Functions.{one, functionsAt}
+use Rattle.universal.specs.Functions.{functionsAt}
 use Rattle.conic.specs.TimeAndRatio.{ratioAt}
 
 -- "F = 1 - U2; G = U1 + s*U2; Ft = ((-U1)/R)/f4; Gt = 1 - U2/R. Position = r*F + (v*f4)*G, velocity = r*Ft + v*Gt"

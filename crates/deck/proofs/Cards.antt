@@ -6,8 +6,8 @@ use Prim.Native.Nat.{ℕ, zero, suc, _+_, _≤_}
 use borrow.Author.Tests.{leb-true}
 use lib.Dec.{eqb, leb}
 use lib.ListN.{length, take, drop}
-use Rattle.conic.specs.Tests.{Checked, pass, refuse, guard, onward}
-use Rattle.conic.proofs.Rows.{pass-once, test-passed, rows-passed}
+use Rattle.rows.specs.Rows.{Checked, pass, refuse, guard, onward}
+use Rattle.rows.proofs.Laws.{pass-once, test-passed, rows-passed}
 use Rattle.card.specs.declared.Kind.{Kind}
 use Rattle.card.specs.Fields.{Card, sizeOf}
 use Rattle.deck.specs.Contents.{kindAt, offsetAt, lengthAt, entryOf, cardsFrom, Passes}

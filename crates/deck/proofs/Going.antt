@@ -10,8 +10,8 @@ use native.Mathlib.Omega.{arith}
 use borrow.Rule.Slice.PartMut.{putMid, set-mid-at}
 use lib.ListN.{length, take, drop, set, length-drop, length-set, length-map}
 use lib.Seq.{length-take-le, sets, sets-eq}
-use Rattle.conic.specs.Tests.{pass, refuse, onward}
-use Rattle.conic.proofs.Rows.{pass-once}
+use Rattle.rows.specs.Rows.{pass, refuse, onward}
+use Rattle.rows.proofs.Laws.{pass-once}
 use Rattle.card.specs.declared.Kind.{Kind}
 use Rattle.card.specs.Fields.{Card, sizeOf}
 use Rattle.card.specs.Said.{Said, numberIn}

@@ -6,8 +6,8 @@ use Prim.Native.Nat.{ℕ, _≤_, _<_}
 use borrow.Author.Tests.{leb-true, le-leb, lt-leb}
 use lib.Dec.{eqb, leb}
 use lib.ListN.{length}
-use Rattle.conic.specs.Tests.{Checked, pass, refuse, guard, onward}
-use Rattle.conic.proofs.Rows.{pass-once, test-passed, rows-passed}
+use Rattle.rows.specs.Rows.{Checked, pass, refuse, guard, onward}
+use Rattle.rows.proofs.Laws.{pass-once, test-passed, rows-passed}
 use Rattle.card.specs.Fields.{Card}
 use Rattle.deck.specs.Contents.{entryAt, versionOf, countOf, cardsFrom, cardsOf, counting, Passes}
 use Rattle.deck.specs.Check.{judgedFrom, judgedOf, tallied, answerOf, written, listAfter}

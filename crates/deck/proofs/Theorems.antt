@@ -10,8 +10,8 @@ use lib.Dec.{leb}
 use lib.ListN.{length, take, drop, getD, length-append, length-drop, length-map}
 use lib.Seq.{take-at, drop-at}
 use Rattle.exact.proofs.Coincidence.{one-result, undone}
-use Rattle.conic.specs.Tests.{Checked, pass, refuse, guard, onward}
-use Rattle.conic.proofs.Rows.{pass-once, test-passed, rows-passed}
+use Rattle.rows.specs.Rows.{Checked, pass, refuse, guard, onward}
+use Rattle.rows.proofs.Laws.{pass-once, test-passed, rows-passed}
 use Rattle.card.specs.Fields.{Card}
 use Rattle.card.specs.Said.{Said, numberIn}
 use Rattle.card.specs.Verdict.{verdictOn}

@@ -14,7 +14,7 @@ use Rattle.exact.proofs.Basics.{passed, failed}
 use Rattle.exact.proofs.Steps.{same-number}
 use Rattle.exact.proofs.Order.{plus-le, plus-lt, le-of-not-lt}
 use Rattle.exact.proofs.Zero.{nought-number, nought-steps, nought-plus}
-use Rattle.conic.specs.Tests.{pass}
+use Rattle.rows.specs.Rows.{pass}
 use Rattle.card.specs.Fields.{Card}
 use Rattle.card.specs.Said.{Said, solved, refused, rejected}
 use Rattle.card.specs.Verdict.{verdictOn}

@@ -3,7 +3,7 @@ use Prim.Native.Nat.{ℕ}
 use mathlib.Core.List.{List, _++_, map}
 use lib.Dec.{leb}
 use lib.ListN.{length, drop}
-use Rattle.conic.specs.Tests.{Checked, pass, refuse, guard, onward}
+use Rattle.rows.specs.Rows.{Checked, pass, refuse, guard, onward}
 use Rattle.card.specs.Fields.{Card}
 use Rattle.card.specs.Said.{Said, numberIn}
 use Rattle.card.specs.Verdict.{verdictOn}

@@ -4,7 +4,7 @@ use mathlib.Core.List.{List, [], _∷_}
 use lib.Dec.{eqb, leb}
 use lib.ListN.{length, take, drop}
 use Rattle.words.specs.Words.{valueAt}
-use Rattle.conic.specs.Tests.{Checked, pass, refuse, guard, onward}
+use Rattle.rows.specs.Rows.{Checked, pass, refuse, guard, onward}
 use Rattle.card.specs.declared.Kind.{Kind}
 use Rattle.card.specs.Fields.{Card, kindOf, sizeOf}
 

@@ -1,6 +1,6 @@
 -- What the answers say, in document 01's numbers and values. Definitions only.
 use Prim.Native.Nat.{ℕ}
-use Rattle.conic.specs.Tests.{Checked, pass, refuse}
+use Rattle.rows.specs.Rows.{Checked, pass, refuse}
 use Rattle.card.specs.declared.Kind.{Kind}
 use Rattle.deck.specs.declared.Totals.{Totals}
 use Rattle.deck.specs.declared.Reason.{Reason}

@@ -6,7 +6,7 @@ use crate::Totals;
 use card::Verdict;
 ghost use mathlib.Core.Path.{_≡_};
 ghost use Prim.Native.Nat.{_+_, _<_};
-ghost use Rattle.conic.specs.Tests.{pass};
+ghost use Rattle.rows.specs.Rows.{pass};
 ghost use Rattle.card.specs.Said as card;
 ghost use Rattle.deck.specs.Said.{said};
 ghost use Rattle.deck.specs.Tally.{nothing, larger, counted, residualsOf, totalsOf};

@@ -32,6 +32,9 @@ wordOf x = toBits binary64 x
 abbrev pub nought : Float
 nought = numberOf 0x0
 
+abbrev pub one : Float
+one = numberOf 0x3ff0_0000_0000_0000
+
 abbrev pub two : Float
 two = numberOf 0x4000_0000_0000_0000
 

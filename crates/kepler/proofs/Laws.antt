@@ -17,12 +17,12 @@ use Rattle.search.proofs.Laws.{In, Kept, solved-near, solved-in, named-kept, na
 use Rattle.conic.specs.declared.Problem.{Problem}
 use Rattle.conic.specs.declared.Scaled.{Scaled}
 use Rattle.conic.specs.declared.State.{State}
-use Rattle.conic.specs.Tests.{Checked, pass, refuse}
+use Rattle.rows.specs.Rows.{Checked, pass, refuse}
 use Rattle.conic.specs.Said.{Said, solved, refused, refusedWithBracket, withState}
 use Rattle.conic.specs.TimeAndRatio.{timeAt}
 use Rattle.conic.specs.Unfolding.{arrivalAt}
 use Rattle.conic.specs.Entry.{entryOf}
-use Rattle.conic.proofs.Rows.{Refuses, refusal-has}
+use Rattle.rows.proofs.Laws.{Refuses, refusal-has}
 use Rattle.conic.proofs.Refusals.{Numbered, entry-refuses, arrival-refuses}
 use Rattle.conic.proofs.Passed.{entered, Arrives, arrives}
 use Rattle.conic.proofs.Fair.{fair}

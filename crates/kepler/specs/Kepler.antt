@@ -6,7 +6,7 @@ use Rattle.search.specs.Said as search
 use Rattle.search.specs.Search.{searchOf}
 use Rattle.conic.specs.declared.Scaled.{Scaled}
 use Rattle.conic.specs.declared.Problem.{Problem}
-use Rattle.conic.specs.Tests.{Checked, pass, refuse}
+use Rattle.rows.specs.Rows.{Checked, pass, refuse}
 use Rattle.conic.specs.Said.{Said, refused, refusedWithBracket, withState}
 use Rattle.conic.specs.TimeAndRatio.{timeAt}
 use Rattle.conic.specs.Unfolding.{arrivalAt}

@@ -1,12 +1,12 @@
 -- Through an angle: document 01, "Theta". Definitions only.
 use lib.Ieee.{Float, le}
-use Rattle.exact.specs.Numbers.{_⊕_, _⊖_, _⊗_, _⊘_, numberOf, two}
+use Rattle.exact.specs.Numbers.{_⊕_, _⊖_, _⊗_, _⊘_, numberOf, one, two}
 use Rattle.conic.specs.declared.State.{State}
 use Rattle.conic.specs.declared.Vector.{Vector}
 use Rattle.conic.specs.declared.Scaled.{Scaled}
-use Rattle.conic.specs.Tests.{Checked, guard, onward}
+use Rattle.rows.specs.Rows.{Checked, guard, onward}
 use Rattle.conic.specs.Said.{Said, withState}
-use Rattle.universal.specs.Functions.{one, functionsAt}
+use Rattle.universal.specs.Functions.{functionsAt}
 use Rattle.conic.specs.Unfolding.{arrivalOf}
 use Rattle.conic.specs.Entry.{rooted, angleEntryOf}
 

@@ -5,7 +5,7 @@ use Rattle.exact.specs.Numbers.{magnitude, isNear, steps}
 use Rattle.root.specs.Whole.{wholeRoot}
 use Rattle.root.specs.Root.{radicand, nearestRoot, rootOf}
 use Rattle.search.specs.Search.{firstGuess, narrowedBy, nextGuess, hunt, searchOf}
-use Rattle.conic.specs.Tests.{guard, onward}
+use Rattle.rows.specs.Rows.{guard, onward}
 use Rattle.universal.specs.Series.{coefficients, workedFrom, worked}
 use Rattle.universal.specs.Functions.{functionsAt}
 use Rattle.conic.specs.TimeAndRatio.{timeAt}

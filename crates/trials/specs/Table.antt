@@ -3,17 +3,18 @@ use mathlib.Core.Path.{_≡_}
 use mathlib.Core.List.{List, [], _∷_}
 use Prim.Native.Nat.{ℕ}
 use lib.Ieee.{Float, nan}
-use Rattle.exact.specs.Numbers.{numberOf, nought}
+use Rattle.exact.specs.Numbers.{numberOf, nought, one}
 use Rattle.root.specs.Said as root
 use Rattle.root.specs.Root.{rootOf}
 use Rattle.search.specs.declared.Bracket.{Bracket}
 use Rattle.conic.specs.declared.Vector.{Vector}
 use Rattle.conic.specs.declared.Problem.{Problem}
 use Rattle.conic.specs.declared.Scaled.{Scaled}
-use Rattle.conic.specs.Tests.{pass, onward}
+use Rattle.rows.specs.Rows.{pass, onward}
 use Rattle.conic.specs.Said.{Said, solved, refused, refusedWithBracket}
-use Rattle.universal.specs.Functions.{one, four, functionsAt, ratioOf}
-use Rattle.conic.specs.Unfolding.{unfolded}
+use Rattle.universal.specs.Functions.{four, functionsAt}
+use Rattle.conic.specs.TimeAndRatio.{ratioAt}
+use Rattle.conic.specs.Unfolding.{stateAt}
 use Rattle.conic.specs.Entry.{sixtyFour, eight, entryOf}
 use Rattle.kepler.specs.Kepler.{keplerOf}
 
@@ -33,8 +34,7 @@ abbrev unfoldedAt : Float → Scaled × Bracket → Float × Float × Float × V
 unfoldedAt x e =
     let o = e .0 in
     let u = functionsAt x (o .alpha) in
-    let ratio = ratioOf (o .s) u in
-    (u .u1, u .u2, ratio, unfolded o (u .u1) (u .u2) ratio .r)
+    (u .u1, u .u2, ratioAt o x, stateAt o x .r)
 
 abbrev pub Holds : Trial → Type 0
 Holds (rootGives x s) = rootOf x ≡ s

@@ -3,10 +3,10 @@
 use mathlib.Core.Path.{_≡_, refl}
 use mathlib.Core.Bool.{Bool, true, false}
 use lib.Ieee.{Float, binary64, round, mul, div, add, sub, neg, ofBits}
-use Rattle.exact.specs.Numbers.{_⊕_, _⊖_, _⊗_, _⊘_, nought, two, Number}
+use Rattle.exact.specs.Numbers.{_⊕_, _⊖_, _⊗_, _⊘_, nought, one, two, Number}
 use Rattle.exact.proofs.Zero.{zero, times-nought}
 use Rattle.universal.specs.Series.{coefficients, workedFrom, worked}
-use Rattle.universal.specs.Functions.{one, four, functionsAt, timeOf}
+use Rattle.universal.specs.Functions.{four, functionsAt, timeOf}
 
 -- ---- the closed numbers, for a zero of either sign
 

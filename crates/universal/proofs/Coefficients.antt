@@ -14,13 +14,12 @@ use lib.Ieee.{Float, nan, binary64, ofBits}
 use lib.Ieee.Fits.{round-fits}
 use lib.Ieee.Bits.{ofBits-fits}
 use lib.Ieee.Positive.{first-pos}
-use Rattle.exact.specs.Numbers.{numberOf, isFinite, Number, minus, steps, distance, inSteps}
+use Rattle.exact.specs.Numbers.{numberOf, one, isFinite, Number, minus, steps, distance, inSteps}
 use Rattle.exact.proofs.Steps.{steps-lt, same-number}
 use Rattle.exact.proofs.Rounding.{rounded, nothing-nearer, rounded-le, round-steps}
 use Rattle.exact.proofs.OneStep.{step, step-number, step-steps}
 use Rattle.exact.proofs.Zero.{positive-is}
 use Rattle.universal.specs.Series.{factorial, nearestInverse, inversesFrom, coefficients, sized, off, IsNearestInverse}
-use Rattle.universal.specs.Functions.{one}
 
 -- ---- n!
 

@@ -1,11 +1,8 @@
 -- The universal functions, time and radius ratio: document 01, "The universal functions". Definitions only.
 use lib.Ieee.{Float}
-use Rattle.exact.specs.Numbers.{_⊕_, _⊖_, _⊗_, _⊘_, numberOf, two}
+use Rattle.exact.specs.Numbers.{_⊕_, _⊖_, _⊗_, _⊘_, numberOf, one, two}
 use Rattle.universal.specs.declared.Functions.{Functions}
 use Rattle.universal.specs.Series.{coefficients, worked}
-
-abbrev pub one : Float
-one = numberOf 0x3ff0_0000_0000_0000
 
 abbrev pub four : Float
 four = numberOf 0x4010_0000_0000_0000

@@ -3,7 +3,7 @@ use mathlib.Core.Path.{_≡_, refl, _∙_}
 use mathlib.Core.Bool.{_&&_}
 use borrow.Author.Tests.{not-true, not-false}
 use Rattle.exact.specs.Numbers.{_⊖_, magnitude, isNear}
-use Rattle.conic.specs.Tests.{guard}
+use Rattle.rows.specs.Rows.{guard}
 use Rattle.card.specs.Verdict.{unfoldsTo, atX}
 use borrow.Author.Needs.{needs}
 use Rattle.card.proofs.at_x.Statement.{statement}

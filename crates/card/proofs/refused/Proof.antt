@@ -3,7 +3,7 @@ use mathlib.Core.Path.{_≡_, refl}
 use mathlib.Core.Bool.{_&&_}
 use lib.Dec.{eqb}
 use borrow.Author.Tests.{not-true, not-false}
-use Rattle.conic.specs.Tests.{pass, guard}
+use Rattle.rows.specs.Rows.{pass, guard}
 use Rattle.card.specs.Verdict.{refusedCard}
 use borrow.Author.Needs.{needs}
 use Rattle.card.proofs.refused.Statement.{statement}

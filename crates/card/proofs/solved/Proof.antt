@@ -1,7 +1,7 @@
 -- `card::solved` meets its contract: the spare, the entry's refusal, or what x comes to.
 use mathlib.Core.Path.{_≡_, refl, ap, _∙_}
 use borrow.Author.Tests.{ne-eqb, eq-eqb}
-use Rattle.conic.specs.Tests.{guard, onward}
+use Rattle.rows.specs.Rows.{guard, onward}
 use Rattle.conic.specs.Said.{passedStart}
 use Rattle.card.specs.Said.{rejected, refusalIn}
 use Rattle.card.specs.Verdict.{atX, solvedCard}

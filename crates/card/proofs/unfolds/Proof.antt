@@ -1,6 +1,6 @@
 -- `card::unfolds` meets its contract: each return is one way through the definition's row of tests.
 use mathlib.Core.Path.{refl}
-use Rattle.conic.specs.Tests.{guard, onward}
+use Rattle.rows.specs.Rows.{guard, onward}
 use Rattle.card.specs.Verdict.{unfoldsTo}
 use borrow.Author.Needs.{needs}
 use Rattle.card.proofs.unfolds.Statement.{statement}

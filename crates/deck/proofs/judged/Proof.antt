@@ -5,7 +5,7 @@ use Prim.Native.Nat.{_+_, _-_, _≤_, _<_}
 use native.Mathlib.Omega.{arith}
 use borrow.Author.Needs.{needs}
 use lib.ListN.{length}
-use Rattle.conic.specs.Tests.{pass}
+use Rattle.rows.specs.Rows.{pass}
 use Rattle.card.specs.Said.{said}
 use Rattle.deck.specs.declared.tally.Running.{Running}
 use Rattle.deck.specs.Said.{numberOf, entered}

@@ -1,7 +1,7 @@
 -- `kepler::kepler` meets its contract: the entry's refusal, or the search and what its end comes to.
 use mathlib.Core.Path.{_≡_, sym, ap, _∙_}
 use borrow.Author.Needs.{needs}
-use Rattle.conic.specs.Tests.{pass}
+use Rattle.rows.specs.Rows.{pass}
 use Rattle.conic.specs.Said.{passedStart}
 use Rattle.conic.specs.Entry.{entryOf}
 use Rattle.conic.proofs.Passed.{entered}

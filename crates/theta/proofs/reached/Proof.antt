@@ -3,7 +3,7 @@ use mathlib.Core.Path.{refl}
 use borrow.Author.Needs.{needs}
 use borrow.Author.Tests.{not-true, not-false}
 use lib.Ieee.{le}
-use Rattle.conic.specs.Tests.{guard}
+use Rattle.rows.specs.Rows.{guard}
 use Rattle.theta.specs.Theta.{leastDen, denOf, reachedState}
 use Rattle.theta.proofs.reached.Statement.{statement}
 use Rattle.theta.proofs.reached.Tie as tie

@@ -1,7 +1,7 @@
 -- `theta::theta` meets its contract: the entry's refusal, or the turn.
 use mathlib.Core.Path.{refl, sym, ap, _∙_}
 use borrow.Author.Needs.{needs}
-use Rattle.conic.specs.Tests.{onward}
+use Rattle.rows.specs.Rows.{onward}
 use Rattle.conic.specs.Said as conic
 use Rattle.theta.specs.Theta.{thetaOf}
 use Rattle.theta.proofs.theta.Statement.{statement}

@@ -1,8 +1,8 @@
 -- `theta::turned` meets its contract: the functions at half the angle, and the root of p.
 use mathlib.Core.Path.{refl, sym, _∙_}
 use borrow.Author.Needs.{needs}
-use Rattle.conic.specs.Tests.{onward}
-use Rattle.conic.proofs.Rows.{root-given, root-refused}
+use Rattle.rows.specs.Rows.{onward}
+use Rattle.conic.proofs.Rooted.{root-given, root-refused}
 use Rattle.theta.specs.Theta.{turnedState}
 use Rattle.theta.proofs.turned.Statement.{statement}
 use Rattle.theta.proofs.turned.Tie as tie

@@ -3,7 +3,7 @@ use mathlib.Core.Path.{_≡_, refl, sym, ap, _∙_}
 use borrow.Author.Needs.{needs}
 use borrow.Author.Tests.{not-true, not-false}
 use lib.Ieee.{le}
-use Rattle.conic.specs.Tests.{pass, guard, onward}
+use Rattle.rows.specs.Rows.{pass, guard, onward}
 use Rattle.conic.specs.Said.{passedInputs}
 use Rattle.conic.specs.Entry.{inputsTested, largestAngle, angleEntryOf}
 use Rattle.conic.proofs.entry.angle_entry.Statement.{statement}

@@ -4,7 +4,7 @@ use mathlib.Core.Bool.{_&&_}
 use borrow.Author.Needs.{needs}
 use borrow.Author.Tests.{not-true, not-false}
 use lib.Dec.{leb}
-use Rattle.conic.specs.Tests.{pass, guard, onward}
+use Rattle.rows.specs.Rows.{pass, guard, onward}
 use Rattle.conic.specs.Said.{passedInputs, passedScaled}
 use Rattle.conic.specs.Entry.{inputsTested, entryOf}
 use Rattle.conic.proofs.entry.entry.Statement.{statement}

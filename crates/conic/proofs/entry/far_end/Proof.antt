@@ -1,9 +1,9 @@
 -- `entry::far_end` meets its contract: each return is one case of the definition.
 use mathlib.Core.Path.{refl}
 use borrow.Author.Needs.{needs}
-use Rattle.conic.specs.Tests.{onward}
+use Rattle.rows.specs.Rows.{onward}
 use Rattle.conic.specs.Entry.{farEndOf}
-use Rattle.conic.proofs.Rows.{root-given, root-refused}
+use Rattle.conic.proofs.Rooted.{root-given, root-refused}
 use Rattle.conic.proofs.entry.far_end.Statement.{statement}
 use Rattle.conic.proofs.entry.far_end.Tie as tie
 

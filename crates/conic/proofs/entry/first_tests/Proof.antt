@@ -5,7 +5,7 @@ use borrow.Author.Needs.{needs}
 use borrow.Author.Tests.{not-true, not-false}
 use lib.Ieee.{lt}
 use Rattle.exact.specs.Numbers.{nought}
-use Rattle.conic.specs.Tests.{guard}
+use Rattle.rows.specs.Rows.{guard}
 use Rattle.conic.specs.Entry.{givenFinite, inputsTested}
 use Rattle.conic.proofs.entry.first_tests.Statement.{statement}
 use Rattle.conic.proofs.entry.first_tests.Tie as tie

@@ -3,9 +3,9 @@ use mathlib.Core.Path.{_≡_, refl, sym, _∙_}
 use mathlib.Core.Bool.{true}
 use borrow.Author.Needs.{needs}
 use borrow.Author.Tests.{not-true, not-false}
-use Rattle.conic.specs.Tests.{pass, guard, onward}
+use Rattle.rows.specs.Rows.{pass, guard, onward}
 use Rattle.conic.specs.Entry.{isUsable, rooted, radiusOf}
-use Rattle.conic.proofs.Rows.{root-given, root-refused}
+use Rattle.conic.proofs.Rooted.{root-given, root-refused}
 use Rattle.conic.proofs.entry.radius.Statement.{statement}
 use Rattle.conic.proofs.entry.radius.Tie as tie
 

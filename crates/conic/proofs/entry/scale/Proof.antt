@@ -1,7 +1,7 @@
 -- `entry::scale` meets its contract: radius, unit and scaled problem, one after the other.
 use mathlib.Core.Path.{refl, sym, ap, _∙_}
 use borrow.Author.Needs.{needs}
-use Rattle.conic.specs.Tests.{onward}
+use Rattle.rows.specs.Rows.{onward}
 use Rattle.conic.specs.Said.{passedNumber, passedUnit}
 use Rattle.conic.specs.Entry.{scaledOf}
 use Rattle.conic.proofs.entry.scale.Statement.{statement}

@@ -2,7 +2,7 @@
 use mathlib.Core.Path.{_≡_, refl, sym, ap, _∙_}
 use borrow.Author.Needs.{needs}
 use borrow.Author.Tests.{not-true, not-false}
-use Rattle.conic.specs.Tests.{guard}
+use Rattle.rows.specs.Rows.{guard}
 use Rattle.conic.specs.Vectors.{allFinite, times}
 use Rattle.conic.specs.Entry.{scaledBy}
 use Rattle.conic.proofs.entry.scale_by.Statement.{statement}

@@ -1,7 +1,7 @@
 -- `entry::started` meets its contract: the far end's refusal, or the bracket to either side of 0.
 use mathlib.Core.Path.{refl, sym, ap, _∙_}
 use borrow.Author.Needs.{needs}
-use Rattle.conic.specs.Tests.{onward}
+use Rattle.rows.specs.Rows.{onward}
 use Rattle.conic.specs.Said.{passedNumber}
 use Rattle.conic.specs.Entry.{startOf}
 use Rattle.conic.proofs.entry.started.Statement.{statement}

@@ -4,7 +4,7 @@ use mathlib.Core.Bool.{Bool, _&&_}
 use borrow.Author.Needs.{needs}
 use borrow.Author.Tests.{not-true, not-false}
 use Rattle.exact.specs.Numbers.{isFinite}
-use Rattle.conic.specs.Tests.{guard}
+use Rattle.rows.specs.Rows.{guard}
 use Rattle.conic.specs.Entry.{testedBy}
 use Rattle.conic.proofs.entry.tested.Statement.{statement}
 use Rattle.conic.proofs.entry.tested.Tie as tie

@@ -4,9 +4,9 @@ use mathlib.Core.Bool.{true, _&&_}
 use borrow.Author.Needs.{needs}
 use borrow.Author.Tests.{not-true, not-false}
 use Rattle.exact.specs.Numbers.{_⊗_, _⊘_}
-use Rattle.conic.specs.Tests.{pass, guard, onward}
+use Rattle.rows.specs.Rows.{pass, guard, onward}
 use Rattle.conic.specs.Entry.{isUsable, rooted, unitOf}
-use Rattle.conic.proofs.Rows.{root-given, root-refused}
+use Rattle.conic.proofs.Rooted.{root-given, root-refused}
 use Rattle.conic.proofs.entry.time_unit.Statement.{statement}
 use Rattle.conic.proofs.entry.time_unit.Tie as tie
 

@@ -4,7 +4,7 @@ use mathlib.Core.Bool.{_&&_}
 use lib.Ieee.{le}
 use borrow.Author.Needs.{needs}
 use borrow.Author.Tests.{not-true, not-false}
-use Rattle.conic.specs.Tests.{pass, guard}
+use Rattle.rows.specs.Rows.{pass, guard}
 use Rattle.conic.specs.Unfolding.{leastRatio, arrivalOf}
 use Rattle.conic.proofs.unfolding.arrive.Statement.{statement}
 use Rattle.conic.proofs.unfolding.arrive.Tie as tie

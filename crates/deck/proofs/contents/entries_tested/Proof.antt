@@ -4,7 +4,7 @@ use Prim.Native.Nat.{ℕ, _+_, _-_, _≤_}
 use native.Mathlib.Omega.{arith}
 use borrow.Author.Needs.{needs}
 use lib.ListN.{length}
-use Rattle.conic.specs.Tests.{pass}
+use Rattle.rows.specs.Rows.{pass}
 use Rattle.deck.specs.Said.{numberOf, entered}
 use Rattle.deck.specs.Contents.{entryOf}
 use Rattle.deck.proofs.Cards.{entry-inside}

@@ -5,7 +5,7 @@ use native.Mathlib.Omega.{arith}
 use borrow.Author.Tests.{eq-eqb, ne-eqb, le-leb, lt-leb}
 use lib.Dec.{eqb, leb}
 use lib.ListN.{length}
-use Rattle.conic.specs.Tests.{pass, guard, onward}
+use Rattle.rows.specs.Rows.{pass, guard, onward}
 use Rattle.deck.specs.Contents.{offsetAt, entryOf}
 use borrow.Author.Needs.{needs}
 use Rattle.deck.proofs.contents.entry_at.Statement.{statement}

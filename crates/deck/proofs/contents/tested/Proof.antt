@@ -3,7 +3,7 @@ use mathlib.Core.Path.{_≡_, refl, _∙_}
 use borrow.Author.Tests.{eq-eqb, ne-eqb, le-leb, lt-leb}
 use lib.Dec.{leb}
 use lib.ListN.{length}
-use Rattle.conic.specs.Tests.{guard, onward}
+use Rattle.rows.specs.Rows.{guard, onward}
 use Rattle.deck.specs.Contents.{entryAt, cardsFrom, cardsOf}
 use borrow.Author.Needs.{needs}
 use Rattle.deck.proofs.contents.tested.Statement.{statement}

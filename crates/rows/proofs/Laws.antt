@@ -1,24 +1,8 @@
--- Rows of tests: what the root's answer comes to in one, what a row that passes says of each of its tests, and what each number has with which
--- one can refuse.
-use mathlib.Core.Path.{_≡_, refl, sym, ap, _∙_, subst}
+-- Laws of rows of tests: what a row that passes says of each of its tests, and what each number has with which one can refuse.
+use mathlib.Core.Path.{_≡_, refl, subst}
 use mathlib.Core.Bool.{Bool, true, false, cond, true≢false}
 use Prim.Native.Nat.{ℕ}
-use lib.Ieee.{Float}
-use Rattle.root.specs.declared.Answer.{Answer}
-use Rattle.root.specs.declared.Answer.the-variants.{Root, Refused}
-use Rattle.root.specs.declared.Reason.{Reason}
-use Rattle.root.specs.Said as root
-use Rattle.root.specs.Root.{rootOf}
-use Rattle.conic.specs.Tests.{Checked, pass, refuse, guard, onward}
-use Rattle.conic.specs.Entry.{fromRoot, rooted}
-
-pub root-given : (x r : Float) (answer : Answer) → root.said answer ≡ rootOf x → answer ≡ Root r → rooted x ≡ pass r
-unfolding rooted
-root-given x r answer e g = ap fromRoot (sym e ∙ ap root.said g)
-
-pub root-refused : (x : Float) (why : Reason) (answer : Answer) → root.said answer ≡ rootOf x → answer ≡ Refused why → rooted x ≡ refuse 14
-unfolding rooted
-root-refused x why answer e g = ap fromRoot (sym e ∙ ap root.said g)
+use Rattle.rows.specs.Rows.{Checked, pass, refuse, guard, onward}
 
 pub pass-once : {A : Type 0} {x y : A} → _≡_ {A = Checked A} (pass x) (pass y) → x ≡ y
 pass-once e = cc
