@@ -7,7 +7,7 @@ use Prim.Native.Nat.{ℕ, _+_, _≤_}
 use lib.Ieee.{Float, binary64}
 use lib.Ieee.Bits.{is-true}
 use lib.Ieee.Fits.{sub-fits}
-use Rattle.exact.specs.Numbers.{_⊖_, isFinite, Number, magnitude, isNear, minus, gap, inSteps}
+use Rattle.exact.specs.Numbers.{_⊖_, isFinite, Number, magnitude, isNear, minus, gap, inSteps, mostGap}
 use Rattle.exact.proofs.Basics.{passed}
 use Rattle.exact.proofs.Signs.{magnitude-plus}
 use Rattle.exact.proofs.Tolerance.{near-difference, gap-of-near, near-of-gap}
@@ -40,7 +40,7 @@ pub record Accepted (body : List ℕ) (residual : Float) : Type 0 where
   pub x-finite : isFinite (xOf body) ≡ true
   pub x-in : within start (xOf body) ≡ true
   pub time-finite : isFinite (timeAt o (xOf body)) ≡ true
-  pub gap-small : gap binary64 (timeAt o (xOf body)) (o .t) ≤ inSteps 36 + inSteps 89
+  pub gap-small : gap binary64 (timeAt o (xOf body)) (o .t) ≤ mostGap
   pub arrival : Arrives o (xOf body) (stateAt o (xOf body))
   pub state-bits : stateWords body ≡ wordsOf (stateAt o (xOf body))
   pub residual-is : residual ≡ magnitude (timeAt o (xOf body) ⊖ o .t)

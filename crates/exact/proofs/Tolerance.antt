@@ -10,7 +10,7 @@ use lib.Dec.{T}
 use lib.Pow.{pow-pos}
 use lib.Ieee.{Float, nan, inf, fin, binary64, low, fits, neg, add, sub, lt, eq, le, ofBits}
 use lib.Ieee.Bits.{ofBits-fits}
-use Rattle.exact.specs.Numbers.{_⊖_, numberOf, tolerance, isFinite, Number, magnitude, isNear, minus, steps, distance, gap, inSteps}
+use Rattle.exact.specs.Numbers.{_⊖_, numberOf, tolerance, isFinite, Number, magnitude, isNear, minus, steps, distance, gap, inSteps, mostGap}
 use Rattle.exact.proofs.Basics.{not-below}
 use Rattle.exact.proofs.Rounding.{rounded, nothing-nearer, rounded-le}
 use Rattle.exact.proofs.Order.{round-le}
@@ -93,7 +93,7 @@ module _ (x y : Float) (h : Number binary64 x) (k : Number binary64 y) where
       (subst (λ (n : ℕ). rounded binary64 (gap binary64 x y) L ≤ n) tolerance-steps
       (rounded-le binary64 (gap binary64 x y) L tolerance (pow-pos (low binary64)) (tolerance-number .0) (mul-le-mul-right L (rw tolerance-steps l))))
 
-  pub gap-of-near : T (isNear x y) → gap binary64 x y ≤ inSteps 36 + inSteps 89
+  pub gap-of-near : T (isNear x y) → gap binary64 x y ≤ mostGap
   unfolding L
   gap-of-near t = not-below (beyond (rounded binary64 (gap binary64 x y) L) (gap binary64 x y) (inSteps 36) (inSteps 89) L in-steps-pos (pow-pos (low binary64)) (near-rounded .0 t)
       (subst (λ (n : ℕ). distance (rounded binary64 (gap binary64 x y) L * L) (gap binary64 x y * L) ≤ distance (n * L) (gap binary64 x y * L)) next-steps
@@ -101,6 +101,6 @@ module _ (x y : Float) (h : Number binary64 x) (k : Number binary64 y) where
 
 -- ---- the bound is reached: 2^-36 and -2^-89 are near, and their exact gap is 2^-36 + 2^-89
 
-pub bound-reached : (isNear tolerance (numberOf 0xba60_0000_0000_0000) ≡ true) × (gap binary64 tolerance (numberOf 0xba60_0000_0000_0000) ≡ inSteps 36 + inSteps 89)
+pub bound-reached : (isNear tolerance (numberOf 0xba60_0000_0000_0000) ≡ true) × (gap binary64 tolerance (numberOf 0xba60_0000_0000_0000) ≡ mostGap)
 unfolding isNear sub le gap steps magnitude inSteps ofBits
 bound-reached = (refl, refl)

@@ -92,3 +92,7 @@ gap f x y = cond (Bool·beq (minus x) (minus y)) (distance (steps f x) (steps f 
 -- 2^-k in steps
 unfoldable pub inSteps : ℕ → ℕ
 inSteps k = 2 ^ (1074 - k)
+
+-- the largest exact difference of two times whose binary64 difference is at most 2^-36 (demand 3): 2^-36 + 2^-89
+abbrev pub mostGap : ℕ
+mostGap = inSteps 36 + inSteps 89
