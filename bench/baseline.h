@@ -1,0 +1,28 @@
+/* The three things that are measured: the proved functions of crates/linked, and bench/baseline.c in
+ * its two builds. The types are made here, since where the kit's clang is the compiler no header of
+ * C's is at hand. */
+#ifndef BASELINE_H
+#define BASELINE_H
+
+typedef __UINT8_TYPE__ uint8_t;
+typedef __UINT32_TYPE__ uint32_t;
+typedef __UINT64_TYPE__ uint64_t;
+typedef __SIZE_TYPE__ size_t;
+
+enum { PROBLEM_SIZE = 68, SOLVED_SIZE = 128, REFUSED_SIZE = 80, MOST_CARDS = 256 };
+
+/* Of a problem's bytes: x and the six numbers of the state added up, or minus the refusal's number. */
+double tailfiddle_predict(const uint8_t *problem, size_t length);
+double digit_predict(const uint8_t *problem);
+double hardware_predict(const uint8_t *problem);
+
+/* Of a deck: the mean residual, NaN where no card is solved, or minus the refusal's number. */
+double tailfiddle_check(const uint8_t *deck, size_t length, uint32_t *verdicts, size_t room);
+double digit_check(const uint8_t *deck, size_t length, uint32_t *verdicts, size_t room);
+double hardware_check(const uint8_t *deck, size_t length, uint32_t *verdicts, size_t room);
+
+/* Writes the body of a solved card; 0 where Kepler refuses the problem. */
+int digit_card(const uint8_t *problem, uint8_t *body);
+int hardware_card(const uint8_t *problem, uint8_t *body);
+
+#endif
