@@ -3,5 +3,6 @@ pub mod Walking
 pub mod Tallied
 pub mod Going
 pub mod Opened
+pub mod Accepted
 pub mod Theorems
 pub mod Worst

@@ -23,7 +23,7 @@ use Rattle.deck.specs.declared.tally.Running.{Running}
 use Rattle.deck.specs.Tally.{nothing, larger, counted, countedAll, known, residualsOf}
 use Rattle.deck.specs.Check.{verdictsOf, judgedOf}
 use Rattle.deck.proofs.Tallied.{Given, neither, both, given}
-use Rattle.deck.proofs.Theorems.{accepted-means}
+use Rattle.deck.proofs.Accepted.{accepted-means}
 
 -- a number without a minus
 abbrev pub Plus : Float → Type 0

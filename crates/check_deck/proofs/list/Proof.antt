@@ -3,7 +3,7 @@ use mathlib.Core.Path.{sym, ap, _∙_}
 use native.Mathlib.Omega.{arith}
 use lib.ListN.{length}
 use Rattle.deck.specs.Said.{told, said}
-use Rattle.deck.proofs.Theorems.{TotalsFit, totals-fit, list-as-long}
+use Rattle.deck.proofs.Accepted.{TotalsFit, totals-fit, list-as-long}
 use borrow.Author.Needs.{needs}
 use Rattle.check_deck.proofs.list.Statement.{statement}
 use Rattle.check_deck.proofs.list.Tie as tie

@@ -1,0 +1,103 @@
+-- What an accepted deck has: its cards, a verdict for each, and totals that add up to its count. And the list afterwards: a refused deck leaves
+-- it as it was lent, an accepted one writes the verdicts into its first places, and any deck leaves it as long as it was.
+use mathlib.Core.Path.{_≡_, refl, sym, ap, _∙_}
+use mathlib.Core.Bool.{true≢false}
+use mathlib.Core.List.{List, _++_, map}
+use Prim.Native.Nat.{ℕ, _+_, _≤_}
+use native.Mathlib.Omega.{arith}
+use borrow.Author.Tests.{leb-true}
+use lib.Dec.{leb}
+use lib.ListN.{length, take, drop, length-append, length-drop, length-map}
+use lib.Seq.{take-at, drop-at}
+use Rattle.rows.specs.Rows.{Checked, pass, refuse, guard, onward}
+use Rattle.rows.proofs.Laws.{pass-once, test-passed, rows-passed}
+use Rattle.card.specs.Fields.{Card}
+use Rattle.card.specs.Said.{Said, numberIn}
+use Rattle.card.specs.Verdict.{verdictOn}
+use Rattle.deck.specs.declared.Totals.{Totals}
+use Rattle.deck.specs.Contents.{entryAt, countOf, cardsOf}
+use Rattle.deck.specs.Tally.{Residuals, tallyOf}
+use Rattle.deck.specs.Check.{verdictsOf, judgedOf, tallied, answerOf, written, listAfter}
+use Rattle.deck.proofs.Cards.{as-many}
+use Rattle.deck.proofs.Tallied.{totals-add-up}
+use Rattle.deck.proofs.Opened.{opened}
+
+-- ---- an accepted deck: its cards, a verdict for each, and room for them
+
+pub record Accepted (deck : List ℕ) (room : ℕ) (verdicts : List Said) : Type 0 where
+  pub cards : List Card
+  pub cards-are : cardsOf deck ≡ pass cards
+  pub verdicts-are : verdicts ≡ verdictsOf cards
+  pub few : countOf deck ≤ 256
+  pub enough : countOf deck ≤ room
+  pub as-many-verdicts : length verdicts ≡ countOf deck
+
+pub accepted-means : (deck : List ℕ) (room : ℕ) (verdicts : List Said) → judgedOf deck room ≡ pass verdicts → Accepted deck room verdicts
+unfolding onward judgedOf
+accepted-means deck room verdicts h =
+    let C = rows-passed (cardsOf deck) (λ cards. guard (leb (countOf deck) room) 39 (pass (verdictsOf cards))) h in
+    let list = test-passed (leb (countOf deck) room) 39 (pass (verdictsOf (C .0))) (C .2) in
+    let is : verdictsOf (C .0) ≡ verdicts = pass-once (list .1) in
+    let o = opened deck (countOf deck) (rw (C .1) refl) in
+    let many : length (C .0) ≡ countOf deck = as-many deck (countOf deck) 0 (entryAt (countOf deck)) (C .0) (sym (o .cards-are) ∙ C .1) in
+    record {
+      cards = C .0;
+      cards-are = C .1;
+      verdicts-are = sym is;
+      few = o .most;
+      enough = leb-true (countOf deck) room (list .0);
+      as-many-verdicts = sym (ap length is) ∙ length-map (C .0) (λ (c : Card). verdictOn (c .kind) (c .body)) ∙ many;
+    }
+
+-- "The three add up to the count", which the list has room for
+pub record TotalsFit (deck : List ℕ) (room : ℕ) (totals : Totals) : Type 0 where
+  pub add-up : totals .solved + totals .refused + totals .rejected ≡ countOf deck
+  pub few : countOf deck ≤ 256
+  pub enough : countOf deck ≤ room
+
+pub totals-fit : (deck : List ℕ) (room : ℕ) (totals : Totals) (r : Residuals) → answerOf deck room ≡ pass (totals, r) → TotalsFit deck room totals
+unfolding answerOf
+totals-fit deck room totals r h =
+    let J = rows-passed (judgedOf deck room) (λ verdicts. pass (tallyOf verdicts)) h in
+    let a = accepted-means deck room (J .0) (J .1) in
+    let is : tallyOf (J .0) ≡ (totals, r) = pass-once (J .2) in
+    record {
+      add-up = sym (ap (λ (t : Totals × Residuals). t .0 .solved + t .0 .refused + t .0 .rejected) is) ∙ totals-add-up (J .0) ∙ a .as-many-verdicts;
+      few = a .few;
+      enough = a .enough;
+    }
+
+-- ---- the list afterwards
+
+kept : (list : List ℕ) (m : Checked (List Said)) (k : ℕ) → tallied m ≡ refuse k → written m list ≡ list
+unfolding onward
+kept list (pass verdicts) k e = absurd (true≢false cc)
+kept list (refuse n) k e = refl
+
+-- a refused deck leaves it as it was lent
+pub refused-keeps : (deck list : List ℕ) (k : ℕ) → answerOf deck (length list) ≡ refuse k → listAfter deck list ≡ list
+unfolding answerOf listAfter
+refused-keeps deck list k h = kept list (judgedOf deck (length list)) k h
+
+-- "An accepted deck writes one verdict a card; places beyond the count keep their values."
+pub accepted-writes : (deck list : List ℕ) (verdicts : List Said) → judgedOf deck (length list) ≡ pass verdicts
+    → (take (countOf deck) (listAfter deck list) ≡ map numberIn verdicts) × (drop (countOf deck) (listAfter deck list) ≡ drop (countOf deck) list)
+unfolding listAfter
+accepted-writes deck list verdicts h =
+    let a = accepted-means deck (length list) verdicts h in
+    let many : length (map numberIn verdicts) ≡ countOf deck = length-map verdicts numberIn ∙ a .as-many-verdicts in
+    let is : written (judgedOf deck (length list)) list ≡ map numberIn verdicts ++ drop (countOf deck) list = rw (h, a .as-many-verdicts) refl in (
+      ap (take (countOf deck)) is ∙ take-at (map numberIn verdicts) (drop (countOf deck) list) (countOf deck) many,
+      ap (drop (countOf deck)) is ∙ drop-at (map numberIn verdicts) (drop (countOf deck) list) (countOf deck) many,
+    )
+
+-- any deck leaves it as long as it was
+as-long : (deck list : List ℕ) (m : Checked (List Said)) → judgedOf deck (length list) ≡ m → length (written m list) ≡ length list
+as-long deck list (pass verdicts) h =
+    let a = accepted-means deck (length list) verdicts h in
+    omega (arith, length-append (map numberIn verdicts) (drop (length verdicts) list), length-map verdicts numberIn, length-drop (length verdicts) list, a .as-many-verdicts, a .enough)
+as-long deck list (refuse k) h = refl
+
+pub list-as-long : (deck list : List ℕ) → length (listAfter deck list) ≡ length list
+unfolding listAfter
+list-as-long deck list = as-long deck list (judgedOf deck (length list)) refl
