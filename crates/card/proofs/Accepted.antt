@@ -17,9 +17,10 @@ use Rattle.conic.specs.declared.Scaled.{Scaled}
 use Rattle.rows.specs.Rows.{Checked, pass, refuse}
 use Rattle.conic.specs.TimeAndRatio.{timeAt}
 use Rattle.conic.specs.Unfolding.{stateAt}
-use Rattle.conic.specs.Entry.{entryOf}
-use Rattle.conic.proofs.Passed.{entered, times-are, Arrives}
-use Rattle.conic.proofs.Fair.{in-start-finite}
+use Rattle.entry.specs.Entry.{entryOf}
+use Rattle.conic.proofs.Arrival.{Arrives}
+use Rattle.entry.proofs.Passed.{entered, times-are}
+use Rattle.entry.proofs.Fair.{in-start-finite}
 use Rattle.kepler.specs.Kepler.{keplerOf}
 use Rattle.card.specs.declared.Kind.{Kind}
 use Rattle.card.specs.declared.Kind.the-variants as kind

@@ -9,7 +9,8 @@ use Rattle.search.specs.declared.Bracket.{Bracket}
 use Rattle.conic.specs.declared.Scaled.{Scaled}
 use Rattle.rows.specs.Rows.{Checked, pass, refuse}
 use Rattle.rows.proofs.Laws.{Refuses, passes, guard-refuses, onward-refuses, refusal-has}
-use Rattle.conic.proofs.Refusals.{Numbered, numbered-is, entry-refuses, arrival-refuses}
+use Rattle.conic.proofs.Arrival.{Numbered, numbered-is, arrival-refuses}
+use Rattle.entry.proofs.Refusals.{entry-refuses}
 use Rattle.card.specs.declared.Kind.{Kind}
 use Rattle.card.specs.declared.Kind.the-variants as kind
 use Rattle.card.specs.Fields.{problemOf}

@@ -19,10 +19,11 @@ use Rattle.conic.specs.declared.Scaled.{Scaled}
 use Rattle.rows.specs.Rows.{pass, guard, onward}
 use Rattle.conic.specs.TimeAndRatio.{timeAt}
 use Rattle.conic.specs.Unfolding.{stateAt, arrivalAt}
-use Rattle.conic.specs.Entry.{entryOf}
+use Rattle.entry.specs.Entry.{entryOf}
 use Rattle.rows.proofs.Laws.{pass-once, test-passed, rows-passed}
-use Rattle.conic.proofs.Passed.{entered, Arrives, arrives}
-use Rattle.conic.proofs.Fair.{in-start-finite}
+use Rattle.conic.proofs.Arrival.{Arrives, arrives}
+use Rattle.entry.proofs.Passed.{entered}
+use Rattle.entry.proofs.Fair.{in-start-finite}
 use Rattle.kepler.specs.Kepler.{keplerOf}
 use Rattle.card.specs.declared.Kind.the-variants as kind
 use Rattle.card.specs.Fields.{problemOf, spareOf, xOf, refusalOf, lastSpareOf}

@@ -15,7 +15,7 @@ use Rattle.rows.specs.Rows.{Checked, pass, refuse, guard, onward}
 use Rattle.conic.specs.Said as conic
 use Rattle.conic.specs.TimeAndRatio.{timeAt}
 use Rattle.conic.specs.Unfolding.{arrivalAt}
-use Rattle.conic.specs.Entry.{entryOf}
+use Rattle.entry.specs.Entry.{entryOf}
 use Rattle.kepler.specs.Kepler.{keplerOf}
 use Rattle.card.specs.declared.Kind.{Kind}
 use Rattle.card.specs.declared.Kind.the-variants as kind

@@ -8,12 +8,13 @@ use conic::Problem;
 use conic::Reason;
 use conic::Scaled;
 use conic::Vector;
-use conic::entry::Start;
 use conic::unfolding::Arrival;
+use entry::Start;
 use search::Bracket;
 ghost use mathlib.Core.Path.{_≡_};
 ghost use Prim.Native.Nat.{_≤_};
 ghost use Rattle.conic.specs.Said as conic;
+ghost use Rattle.entry.specs.Said.{passedStart};
 ghost use Rattle.card.specs.Fields.{kindOf, sizeOf, numberAt, vectorAt, problemOf};
 ghost use Rattle.card.specs.Said.{faultNumber, named, said, numberIn, refusalIn};
 ghost use Rattle.card.specs.Verdict.{sameWords, isRefusedWith, unfoldsTo, atX, solvedCard, refusedCard, asSolved, asRefused, verdictOn};
@@ -157,7 +158,7 @@ fn solved(body: &[u8]) -> Verdict
     if words::half(body, SPARE) != 0 {
         return Verdict::Rejected(Fault::SpareNotZero.number());
     }
-    let start = conic::entry::entry(problem(body));
+    let start = entry::entry(problem(body));
     let Start::Passed(o, b) = start else {
         return Verdict::Rejected(own_refusal(start));
     };
@@ -166,7 +167,7 @@ fn solved(body: &[u8]) -> Verdict
 
 // The number of the problem's own refusal; 0 where it passed the tests.
 fn own_refusal(start: Start) -> u32
-    ensures { λ r. ⌜ r ≡ refusalIn (conic.passedStart start) ⌝ }
+    ensures { λ r. ⌜ r ≡ refusalIn (passedStart start) ⌝ }
 {
     match start {
         Start::Passed(_, _) => 0,

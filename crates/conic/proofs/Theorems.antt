@@ -6,10 +6,7 @@ use Prim.Native.Nat.{ℕ}
 use lib.ListN.{getD}
 use lib.Ieee.{Float}
 use Rattle.exact.proofs.Coincidence.{one-result, undone}
-use Rattle.search.specs.declared.Bracket.{Bracket}
-use Rattle.conic.specs.declared.Vector.{Vector}
 use Rattle.conic.specs.declared.State.{State}
-use Rattle.conic.specs.declared.Problem.{Problem}
 use Rattle.conic.specs.declared.Scaled.{Scaled}
 use Rattle.conic.specs.declared.Reason.{Reason}
 use Rattle.conic.specs.declared.Reason.the-variants as why
@@ -17,14 +14,9 @@ use Rattle.conic.specs.declared.Outcome.{Outcome}
 use Rattle.conic.specs.declared.Outcome.the-variants as outcome
 use Rattle.conic.specs.declared.unfolding.Arrival.{Arrival}
 use Rattle.conic.specs.declared.unfolding.Arrival.the-variants as arrival
-use Rattle.conic.specs.declared.entry.Scaling.{Scaling}
-use Rattle.conic.specs.declared.entry.Scaling.the-variants as scaling
-use Rattle.conic.specs.declared.entry.Start.{Start}
-use Rattle.conic.specs.declared.entry.Start.the-variants as start
 use Rattle.rows.specs.Rows.{Checked, pass, refuse}
-use Rattle.conic.specs.Said.{Said, solved, refused, refusedWithBracket, numberOf, said, withState, arrived, passedScaled, passedStart}
+use Rattle.conic.specs.Said.{Said, solved, refused, refusedWithBracket, numberOf, said, withState, arrived}
 use Rattle.conic.specs.Unfolding.{arrivalOf, arrivalAt}
-use Rattle.conic.specs.Entry.{entryOf, angleEntryOf}
 
 -- ---- a reason by its number: a list from 0 on, where the numbers 0 and 13 are no prediction's
 abbrev reasons : List Reason
@@ -49,7 +41,7 @@ reasons =
 abbrev reasonOf : ℕ → Reason
 reasonOf k = getD reasons k why.RootRefused
 
-reason-is : (r : Reason) → reasonOf (numberOf r) ≡ r
+pub reason-is : (r : Reason) → reasonOf (numberOf r) ≡ r
 reason-is why.InputNotFinite = refl
 reason-is why.MuNotPositive = refl
 reason-is why.LimitOutOfRange = refl
@@ -84,7 +76,7 @@ one-outcome arrival x n a b p q = one-said (withState x n (arrived arrival)) a b
 
 -- ---- the answers on the way: something passed, or a reason
 
-abbrev untold : {A B : Type 0} → (B → A) → (Reason → A) → Checked B → A
+abbrev pub untold : {A B : Type 0} → (B → A) → (Reason → A) → Checked B → A
 untold passed failed (pass x) = passed x
 untold passed failed (refuse k) = failed (reasonOf k)
 
@@ -100,20 +92,3 @@ one-arrival o u1 u2 ratio a b p q = arrived-once a b p q
 
 pub one-arrival-at : (o : Scaled) (x : Float) (a b : Arrival) → arrived a ≡ arrivalAt o x → arrived b ≡ arrivalAt o x → a ≡ b
 one-arrival-at o x a b p q = arrived-once a b p q
-
-unscaled : (a : Scaling) → untold scaling.Passed scaling.Refused (passedScaled a) ≡ a
-unscaled (scaling.Passed o) = refl
-unscaled (scaling.Refused r) = ap scaling.Refused (reason-is r)
-
-pub one-angle-entry : (mu : Float) (r v : Vector) (angle : Float) (a b : Scaling) → passedScaled a ≡ angleEntryOf mu r v angle → passedScaled b ≡ angleEntryOf mu r v angle → a ≡ b
-one-angle-entry mu r v angle a b p q = undone passedScaled (untold scaling.Passed scaling.Refused) unscaled a b (one-result p q)
-
-abbrev started : Scaled × Bracket → Start
-started e = start.Passed (e .0) (e .1)
-
-unstarted : (a : Start) → untold started start.Refused (passedStart a) ≡ a
-unstarted (start.Passed o b) = refl
-unstarted (start.Refused r) = ap start.Refused (reason-is r)
-
-pub one-entry : (problem : Problem) (a b : Start) → passedStart a ≡ entryOf problem → passedStart b ≡ entryOf problem → a ≡ b
-one-entry problem a b p q = undone passedStart (untold started start.Refused) unstarted a b (one-result p q)

@@ -2,4 +2,3 @@ pub mod Said
 pub mod Vectors
 pub mod TimeAndRatio
 pub mod Unfolding
-pub mod Entry

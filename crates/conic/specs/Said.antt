@@ -1,25 +1,13 @@
 -- What the answers say, in document 01's numbers and values. Definitions only.
 use Prim.Native.Nat.{ℕ}
 use lib.Ieee.{Float}
-use Rattle.search.specs.declared.Bracket.{Bracket}
 use Rattle.conic.specs.declared.State.{State}
-use Rattle.conic.specs.declared.Scaled.{Scaled}
 use Rattle.conic.specs.declared.Reason.{Reason}
 use Rattle.conic.specs.declared.Reason.the-variants as why
 use Rattle.conic.specs.declared.Outcome.{Outcome}
 use Rattle.conic.specs.declared.Outcome.the-variants as outcome
 use Rattle.conic.specs.declared.unfolding.Arrival.{Arrival}
 use Rattle.conic.specs.declared.unfolding.Arrival.the-variants as arrival
-use Rattle.conic.specs.declared.entry.Number.{Number}
-use Rattle.conic.specs.declared.entry.Number.the-variants as number
-use Rattle.conic.specs.declared.entry.TimeUnit.{TimeUnit}
-use Rattle.conic.specs.declared.entry.TimeUnit.the-variants as unit
-use Rattle.conic.specs.declared.entry.Inputs.{Inputs}
-use Rattle.conic.specs.declared.entry.Inputs.the-variants as inputs
-use Rattle.conic.specs.declared.entry.Scaling.{Scaling}
-use Rattle.conic.specs.declared.entry.Scaling.the-variants as scaling
-use Rattle.conic.specs.declared.entry.Start.{Start}
-use Rattle.conic.specs.declared.entry.Start.the-variants as start
 use Rattle.rows.specs.Rows.{Checked, pass, refuse}
 
 -- "Refusal numbers"
@@ -55,27 +43,7 @@ abbrev pub withState : Float → ℕ → Checked State → Said
 withState x n (pass state) = solved x n state
 withState x n (refuse k) = refused k n
 
--- the answers on the way
+-- an arrival: a state, or the refusal
 abbrev pub arrived : Arrival → Checked State
 arrived (arrival.State state) = pass state
 arrived (arrival.Refused why) = refuse (numberOf why)
-
-abbrev pub passedInputs : Inputs → Checked (Unit {0})
-passedInputs inputs.Passed = pass tt
-passedInputs (inputs.Refused why) = refuse (numberOf why)
-
-abbrev pub passedNumber : Number → Checked Float
-passedNumber (number.Passed x) = pass x
-passedNumber (number.Refused why) = refuse (numberOf why)
-
-abbrev pub passedUnit : TimeUnit → Checked (Float × Float)
-passedUnit (unit.Passed f1 f4) = pass (f1, f4)
-passedUnit (unit.Refused why) = refuse (numberOf why)
-
-abbrev pub passedScaled : Scaling → Checked Scaled
-passedScaled (scaling.Passed o) = pass o
-passedScaled (scaling.Refused why) = refuse (numberOf why)
-
-abbrev pub passedStart : Start → Checked (Scaled × Bracket)
-passedStart (start.Passed o b) = pass (o, b)
-passedStart (start.Refused why) = refuse (numberOf why)

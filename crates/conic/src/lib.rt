@@ -1,6 +1,5 @@
-// The conic: from a state to the scaled problem and its entry tests, and from the universal
-// functions back to a state. Document 01, "From the state to the scaled problem" and "Unfolding",
-// and refusals 1 to 8, 11 and 14.
+// The conic: a problem, the scaled problem and what a prediction answers; and from the universal
+// functions at x back to a state. Document 01, "Unfolding", and the refusals of a prediction.
 //
 // Every public function is proved and total: its contract is an equation with a definition of
 // `specs/`, for every input, NaN and infinities included. The crate assumes nothing.
@@ -8,9 +7,8 @@ ghost use mathlib.Core.Path.{_≡_};
 ghost use Rattle.conic.specs.Said.{numberOf};
 ghost use Rattle.conic.specs.TimeAndRatio.{timeAt};
 
-pub mod entry;
 pub mod unfolding;
-mod vectors;
+pub mod vectors;
 
 pub struct Vector {
     pub x: f64,

@@ -1,32 +1,17 @@
 // Vectors, component by component.
 use crate::Vector;
 ghost use mathlib.Core.Path.{_≡_};
-ghost use Rattle.conic.specs.Vectors.{dot, allFinite, over, times, combined};
+ghost use Rattle.conic.specs.Vectors.{allFinite, times, combined};
 
-// Three products, added in order.
-pub(crate) fn product(a: Vector, b: Vector) -> f64
-    ensures { λ r. ⌜ r ≡ dot a b ⌝ }
-{
-    a.x * b.x + a.y * b.y + a.z * b.z
-}
-
-pub(crate) fn all_finite(a: Vector) -> bool
+// Whether no component is NaN or infinite.
+pub fn all_finite(a: Vector) -> bool
     ensures { λ r. ⌜ r ≡ allFinite a ⌝ }
 {
     exact::finite(a.x) & exact::finite(a.y) & exact::finite(a.z)
 }
 
-pub(crate) fn divided(a: Vector, by: f64) -> Vector
-    ensures { λ r. ⌜ r ≡ over a by ⌝ }
-{
-    Vector {
-        x: a.x / by,
-        y: a.y / by,
-        z: a.z / by,
-    }
-}
-
-pub(crate) fn scaled(by: f64, a: Vector) -> Vector
+// k*a, where `by` is k.
+pub fn scaled(by: f64, a: Vector) -> Vector
     ensures { λ r. ⌜ r ≡ times by a ⌝ }
 {
     Vector {

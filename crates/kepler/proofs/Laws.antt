@@ -21,11 +21,13 @@ use Rattle.rows.specs.Rows.{Checked, pass, refuse}
 use Rattle.conic.specs.Said.{Said, solved, refused, refusedWithBracket, withState}
 use Rattle.conic.specs.TimeAndRatio.{timeAt}
 use Rattle.conic.specs.Unfolding.{arrivalAt}
-use Rattle.conic.specs.Entry.{entryOf}
+use Rattle.entry.specs.Entry.{entryOf}
 use Rattle.rows.proofs.Laws.{Refuses, refusal-has}
-use Rattle.conic.proofs.Refusals.{Numbered, entry-refuses, arrival-refuses}
-use Rattle.conic.proofs.Passed.{entered, Arrives, arrives}
-use Rattle.conic.proofs.Fair.{fair}
+use Rattle.conic.proofs.Arrival.{Numbered, arrival-refuses}
+use Rattle.entry.proofs.Refusals.{entry-refuses}
+use Rattle.conic.proofs.Arrival.{Arrives, arrives}
+use Rattle.entry.proofs.Passed.{entered}
+use Rattle.entry.proofs.Fair.{fair}
 use Rattle.kepler.specs.Kepler.{arrivedAt, outcomeOf, foundIn, afterEntry, keplerOf}
 
 -- ---- the count

@@ -10,7 +10,7 @@ use Rattle.rows.specs.Rows.{Checked, pass, refuse}
 use Rattle.conic.specs.Said.{Said, refused, refusedWithBracket, withState}
 use Rattle.conic.specs.TimeAndRatio.{timeAt}
 use Rattle.conic.specs.Unfolding.{arrivalAt}
-use Rattle.conic.specs.Entry.{entryOf}
+use Rattle.entry.specs.Entry.{entryOf}
 
 -- 2. "R below 2^-10 or not a number, refusal 11; unfold; a component not finite, refusal 6; else solved"
 unfoldable pub arrivedAt : Scaled → Float → ℕ → Said

@@ -7,7 +7,7 @@ use conic::Outcome;
 use conic::Problem;
 use conic::Reason;
 use conic::Scaled;
-use conic::entry::Start;
+use entry::Start;
 use search::Bracket;
 use search::Found;
 use search::Point;
@@ -25,7 +25,7 @@ pub fn kepler(p: Problem) -> Outcome
     ensures { λ r. ⌜ said r ≡ keplerOf p ⌝ }
 {
     let limit = p.limit;
-    match conic::entry::entry(p) {
+    match entry::entry(p) {
         Start::Passed(o, b) => settled(o, hunt(o, b, limit)),
         Start::Refused(why) => Outcome::Refused(why, 0),
     }

@@ -8,7 +8,7 @@ use Rattle.rows.specs.Rows.{Checked, guard, onward}
 use Rattle.conic.specs.Said.{Said, withState}
 use Rattle.universal.specs.Functions.{functionsAt}
 use Rattle.conic.specs.Unfolding.{arrivalOf}
-use Rattle.conic.specs.Entry.{rooted, angleEntryOf}
+use Rattle.entry.specs.Entry.{rooted, angleEntryOf}
 
 -- 2^-10
 abbrev pub leastDen : Float

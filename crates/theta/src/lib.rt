@@ -6,8 +6,8 @@ use conic::Outcome;
 use conic::Reason;
 use conic::Scaled;
 use conic::Vector;
-use conic::entry::Scaling;
 use conic::unfolding::Arrival;
+use entry::Scaling;
 use root::Answer;
 ghost use mathlib.Core.Path.{_≡_};
 ghost use Rattle.conic.specs.Said.{said, arrived};
@@ -20,7 +20,7 @@ const LEAST_DEN: f64 = 0.0009765625;
 pub fn theta(mu: f64, r: Vector, v: Vector, a: f64) -> Outcome
     ensures { λ x. ⌜ said x ≡ thetaOf mu r v a ⌝ }
 {
-    match conic::entry::angle_entry(mu, r, v, a) {
+    match entry::angle_entry(mu, r, v, a) {
         Scaling::Passed(o) => conic::unfolding::outcome_of(turned(o, a), a, 0),
         Scaling::Refused(why) => Outcome::Refused(why, 0),
     }

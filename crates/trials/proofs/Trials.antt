@@ -10,7 +10,7 @@ use Rattle.universal.specs.Series.{coefficients, workedFrom, worked}
 use Rattle.universal.specs.Functions.{functionsAt}
 use Rattle.conic.specs.TimeAndRatio.{timeAt}
 use Rattle.conic.specs.Unfolding.{unfolded, arrivalOf, arrivalAt}
-use Rattle.conic.specs.Entry.{inputsTested, rooted, radiusOf, unitOf, testedBy, scaledBy, scaledOf, farEndOf, bracketedBy, startOf, entryOf}
+use Rattle.entry.specs.Entry.{inputsTested, rooted, radiusOf, unitOf, testedBy, scaledBy, scaledOf, farEndOf, bracketedBy, startOf, entryOf}
 use Rattle.kepler.specs.Kepler.{arrivedAt, foundIn, keplerOf}
 use Rattle.trials.specs.Table.{AllHold, table}
 

@@ -15,7 +15,7 @@ use Rattle.conic.specs.Said.{Said, solved, refused, refusedWithBracket}
 use Rattle.universal.specs.Functions.{four, functionsAt}
 use Rattle.conic.specs.TimeAndRatio.{ratioAt}
 use Rattle.conic.specs.Unfolding.{stateAt}
-use Rattle.conic.specs.Entry.{sixtyFour, eight, entryOf}
+use Rattle.entry.specs.Entry.{sixtyFour, eight, entryOf}
 use Rattle.kepler.specs.Kepler.{keplerOf}
 
 -- a trial: what is tried, and what it has to give

@@ -2,7 +2,7 @@
 use mathlib.Core.Path.{_≡_, refl, ap, _∙_}
 use borrow.Author.Tests.{ne-eqb, eq-eqb}
 use Rattle.rows.specs.Rows.{guard, onward}
-use Rattle.conic.specs.Said.{passedStart}
+use Rattle.entry.specs.Said.{passedStart}
 use Rattle.card.specs.Said.{rejected, refusalIn}
 use Rattle.card.specs.Verdict.{atX, solvedCard}
 use borrow.Author.Needs.{needs}

@@ -2,9 +2,9 @@
 use mathlib.Core.Path.{_≡_, sym, ap, _∙_}
 use borrow.Author.Needs.{needs}
 use Rattle.rows.specs.Rows.{pass}
-use Rattle.conic.specs.Said.{passedStart}
-use Rattle.conic.specs.Entry.{entryOf}
-use Rattle.conic.proofs.Passed.{entered}
+use Rattle.entry.specs.Said.{passedStart}
+use Rattle.entry.specs.Entry.{entryOf}
+use Rattle.entry.proofs.Passed.{entered}
 use Rattle.kepler.specs.Kepler.{outcomeOf, foundIn, afterEntry, keplerOf}
 use Rattle.kepler.proofs.kepler.Statement.{statement}
 use Rattle.kepler.proofs.kepler.Tie as tie

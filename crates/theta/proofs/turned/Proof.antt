@@ -2,7 +2,7 @@
 use mathlib.Core.Path.{refl, sym, _∙_}
 use borrow.Author.Needs.{needs}
 use Rattle.rows.specs.Rows.{onward}
-use Rattle.conic.proofs.Rooted.{root-given, root-refused}
+use Rattle.entry.proofs.Rooted.{root-given, root-refused}
 use Rattle.theta.specs.Theta.{turnedState}
 use Rattle.theta.proofs.turned.Statement.{statement}
 use Rattle.theta.proofs.turned.Tie as tie

@@ -1,0 +1,139 @@
+-- The far end of the bracket is never refused, and it is a number above 0 and at most 64. Where |alpha| is above 1/64, its root is at least
+-- 1/8: were it less, the middle between it and 1/8 would lie above the exact root, whose square would lie below 1/64. And 8 over 1/8 is 64.
+use mathlib.Core.Path.{_≡_, refl, subst}
+use mathlib.Core.Bool.{Bool, true, false}
+use Prim.Native.Nat.{ℕ, _+_, _*_, _^_, _≤_, _<_, zero-le}
+use native.Mathlib.Nat.{le-trans, le-of-eq, le-of-lt, lt-of-lt-of-le, lt-of-le-of-lt, lt-of-not-le, not-le-of-lt, mul-le-mul-left, lt-of-mul-lt-mul-right}
+use native.Mathlib.Omega.{arith}
+use lib.Dec.{T, T-not, lit<, lit≤}
+use lib.Ieee.{Float, binary64, low, round, lt, le, eq, ofBits}
+use lib.Ieee.Fits.{round-fits}
+use lib.Ieee.Bits.{ofBits-fits}
+use lib.Ieee.Scale.{overflow}
+use Rattle.exact.specs.Numbers.{_⊘_, numberOf, nought, Number, magnitude, minus, steps}
+use Rattle.exact.proofs.Basics.{failed, not-below}
+use Rattle.exact.proofs.Steps.{steps-lt}
+use Rattle.exact.proofs.Rounding.{rounded, rounded-le, round-steps}
+use Rattle.exact.proofs.Order.{plus-le, plus-lt}
+use Rattle.exact.proofs.Arithmetic.{div-steps}
+use Rattle.exact.proofs.Signs.{magnitude-plus}
+use Rattle.exact.proofs.OneStep.{not-to-zero}
+use Rattle.exact.proofs.Zero.{positive-is}
+use Rattle.root.specs.Root.{radicand, sum, Nearest}
+use Rattle.root.proofs.Whole.{square-le}
+use Rattle.root.proofs.Theorems.{definition-holds}
+use Rattle.rows.specs.Rows.{pass, onward}
+use Rattle.entry.specs.Entry.{rooted, sixtyFourth, sixtyFour, eight, farEndOf}
+
+-- a finite number that is not minus
+abbrev Plus : Float → Type 0
+Plus x = Number binary64 x × (minus x ≡ false)
+
+-- ---- the closed numbers
+
+abbrev eighth : Float
+eighth = numberOf 0x3fc0_0000_0000_0000
+
+sixtyFourth-plus : Plus sixtyFourth
+unfolding ofBits
+sixtyFourth-plus = ((ofBits-fits binary64 0x3f90_0000_0000_0000, tt), refl)
+
+eighth-plus : Plus eighth
+unfolding ofBits
+eighth-plus = ((ofBits-fits binary64 0x3fc0_0000_0000_0000, tt), refl)
+
+eight-plus : Plus eight
+unfolding ofBits
+eight-plus = ((ofBits-fits binary64 0x4020_0000_0000_0000, tt), refl)
+
+sixtyFour-plus : Plus sixtyFour
+unfolding ofBits
+sixtyFour-plus = ((ofBits-fits binary64 0x4050_0000_0000_0000, tt), refl)
+
+square-of-eighth : steps binary64 eighth * steps binary64 eighth ≡ steps binary64 sixtyFourth * 2 ^ 1074
+unfolding steps ofBits
+square-of-eighth = refl
+
+eighth-of-sixtyFour : steps binary64 eight * 2 ^ low binary64 ≡ steps binary64 sixtyFour * steps binary64 eighth
+unfolding steps ofBits
+eighth-of-sixtyFour = refl
+
+-- 8 over the largest number is still more than one step
+more-than-a-step : (n : ℕ) → n < overflow binary64 → n ≤ steps binary64 eight * 2 ^ low binary64
+unfolding steps ofBits
+more-than-a-step n l = le-trans (le-of-lt l) (lit≤ tt)
+
+eighth-pos : 0 < steps binary64 eighth
+unfolding steps ofBits
+eighth-pos = lit< tt
+
+-- ---- the root of a number above 1/64
+
+too-low : (e s m l r : ℕ) → e * e ≡ s * l → r < e → 4 * (m * l) < (r + e) * (r + e) → m < s
+too-low e s m l r q h k =
+    let b : (r + e) * (r + e) ≤ (e + e) * (e + e) = square-le (omega arith) in
+    lt-of-mul-lt-mul-right l (omega arith)
+
+root-least : (x r : Float) → steps binary64 sixtyFourth < steps binary64 x → Nearest x r → Plus r × (steps binary64 eighth ≤ steps binary64 r)
+unfolding radicand sum
+root-least x r above n = ((n .number, plus), not-below (λ l. not-le-of-lt (under l) (le-of-lt above)))
+  where
+    plus : minus r ≡ false
+    plus = positive-is r (n .number) .0 (n .positive) .0
+
+    under : steps binary64 r < steps binary64 eighth → steps binary64 x < steps binary64 sixtyFourth
+    under l =
+        let q = n .above eighth (eighth-plus .0) (plus-lt binary64 r eighth (n .number) (eighth-plus .0) plus (eighth-plus .1) .1 l) in
+        too-low (steps binary64 eighth) (steps binary64 sixtyFourth) (steps binary64 x) (2 ^ 1074) (steps binary64 r) square-of-eighth l (rw (eighth-plus .1) at q)
+
+-- ---- 8 over a root of at least 1/8
+
+pub record IsFarEnd (x : Float) : Type 0 where
+  pub number : Number binary64 x
+  pub plus : minus x ≡ false
+  pub positive : T (lt nought x)
+  pub most : T (le x sixtyFour)
+
+quotient : (r : Float) → Plus r → steps binary64 eighth ≤ steps binary64 r → IsFarEnd (eight ⊘ r)
+quotient r p l =
+    let a = steps binary64 eight in
+    let c = steps binary64 r in
+    let C : 0 < c = lt-of-lt-of-le eighth-pos l in
+    let is : eight ⊘ r ≡ round binary64 false a c = rw (eight-plus .1, p .1) at (div-steps binary64 eight r (eight-plus .0) (p .0) C) in
+    let m : rounded binary64 a c ≤ steps binary64 sixtyFour =
+    rounded-le binary64 a c sixtyFour C (sixtyFour-plus .0 .0) (le-trans (le-of-eq eighth-of-sixtyFour) (mul-le-mul-left (steps binary64 sixtyFour) l)) in
+    let v = round-steps binary64 false a c (lt-of-le-of-lt m (steps-lt binary64 sixtyFour (sixtyFour-plus .0 .0))) in
+    let some : 0 < rounded binary64 a c = not-to-zero a c C (more-than-a-step c (steps-lt binary64 r (p .0 .0))) in
+    let n : Number binary64 (round binary64 false a c) = (round-fits binary64 false a c, v .2) in
+    rw is (record {
+      number = n;
+      plus = v .1;
+      positive = positive-is (round binary64 false a c) n .1 (v .1, rw (v .0) some);
+      most = plus-le binary64 (round binary64 false a c) sixtyFour n (sixtyFour-plus .0) (v .1) (sixtyFour-plus .1) .1 (rw (v .0) m);
+    })
+
+sixtyFour-far : IsFarEnd sixtyFour
+unfolding ofBits lt le eq
+sixtyFour-far = record { number = sixtyFour-plus .0; plus = sixtyFour-plus .1; positive = tt; most = tt }
+
+-- ---- the far end
+
+above-sixtyFourth : (x : Float) → Plus x → le x sixtyFourth ≡ false → steps binary64 sixtyFourth < steps binary64 x
+above-sixtyFourth x p e = lt-of-not-le (λ l. T-not (le x sixtyFourth) (failed e) (plus-le binary64 x sixtyFourth (p .0) (sixtyFourth-plus .0) (p .1) (sixtyFourth-plus .1) .1 l))
+
+pub far-end : (alpha : Float) → Number binary64 alpha → (x : Float) × (farEndOf alpha ≡ pass x) × IsFarEnd x
+unfolding farEndOf rooted onward
+far-end alpha h = go (le (magnitude alpha) sixtyFourth) refl
+  where
+    go : (b : Bool) → le (magnitude alpha) sixtyFourth ≡ b → (x : Float) × (farEndOf alpha ≡ pass x) × IsFarEnd x
+    go true e = (sixtyFour, rw e, sixtyFour-far)
+    go false e =
+        let p = magnitude-plus alpha h in
+        let above = above-sixtyFourth (magnitude alpha) p e in
+        let r = definition-holds (magnitude alpha) (p .0 .0) .above-zero (p .0 .1) (positive-is (magnitude alpha) (p .0) .1 (p .1, lt-of-le-of-lt zero-le above)) in
+        let k = root-least (magnitude alpha) (r .0) above (r .2) in
+        (eight ⊘ r .0, rw (e, r .1), quotient (r .0) (k .0) (k .1))
+
+-- whatever passes as the far end is that one
+pub far-end-is : (alpha x : Float) → Number binary64 alpha → farEndOf alpha ≡ pass x → IsFarEnd x
+far-end-is alpha x h e = let f = far-end alpha h in let same : f .0 ≡ x = cc in subst IsFarEnd same (f .2)

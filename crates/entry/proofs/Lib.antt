@@ -1,0 +1,7 @@
+pub mod Rooted
+pub mod Refusals
+pub mod Passed
+pub mod AtZero
+pub mod FarEnd
+pub mod Fair
+pub mod Theorems

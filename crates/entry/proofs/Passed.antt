@@ -1,0 +1,127 @@
+-- What a problem that passes the entry tests is: each row of tests passed, s, alpha, p and t are numbers, and the bracket is the starting
+-- one.
+use mathlib.Core.Path.{_≡_, refl, sym, subst}
+use mathlib.Core.Bool.{Bool, true, false, cond, not, _&&_}
+use Prim.Native.Nat.{_≤_}
+use borrow.Author.Tests.{leb-true, not-true}
+use lib.Dec.{T, leb}
+use lib.Ieee.{Float, binary64, lt, le, neg, fits}
+use lib.Ieee.Fits.{add-fits, sub-fits, div-fits}
+use lib.Ieee.Bits.{is-true}
+use Rattle.exact.specs.Numbers.{_⊕_, _⊖_, _⊗_, _⊘_, nought, two, isFinite, Number}
+use Rattle.exact.proofs.Basics.{passed, both}
+use Rattle.search.specs.declared.Bracket.{Bracket}
+use Rattle.search.proofs.Hunt.{pointAt}
+use Rattle.conic.specs.declared.Vector.{Vector}
+use Rattle.conic.specs.declared.Problem.{Problem}
+use Rattle.conic.specs.declared.Scaled.{Scaled}
+use Rattle.rows.specs.Rows.{Checked, pass, guard, onward}
+use Rattle.conic.specs.Vectors.{dot, allFinite, over, times}
+use Rattle.conic.specs.TimeAndRatio.{timeAt}
+use Rattle.entry.specs.Entry.{straight, inputsTested, radiusOf, unitOf, testedBy, scaledBy, scaledOf, farEndOf, startingBracket, bracketedBy, startOf, entryOf}
+use Rattle.rows.proofs.Laws.{pass-once, test-passed, rows-passed}
+use Rattle.conic.proofs.Fitting.{time-fits}
+
+-- ---- the scaled problem
+
+pub record Numbers (o : Scaled) : Type 0 where
+  pub s-number : Number binary64 (o .s)
+  pub alpha-number : Number binary64 (o .alpha)
+  pub p-number : Number binary64 (o .p)
+  pub t-number : Number binary64 (o .t)
+
+-- the numbers fit, since each is the result of an operation
+abbrev Fit : Scaled → Type 0
+Fit o = T (fits binary64 (o .s)) × T (fits binary64 (o .alpha)) × T (fits binary64 (o .p)) × T (fits binary64 (o .t))
+
+five : (a b c d e : Bool) → a && b && c && d && e ≡ true → T a × T b × T c × T d × T e
+five a b c d e h =
+    let p = both (a && b && c && d) e .0 h in
+    let q = both (a && b && c) d .0 (is-true (a && b && c && d) (p .0)) in
+    let r = both (a && b) c .0 (is-true (a && b && c) (q .0)) in
+    let s = both a b .0 (is-true (a && b) (r .0)) in
+    (s .0, s .1, r .1, q .1, p .1)
+
+tested-is : (q : Float) (o e : Scaled) → testedBy q o ≡ pass e → Fit o → (o ≡ e) × Numbers o
+unfolding testedBy
+tested-is q o e h f =
+    let finite = isFinite (o .s) && isFinite q && isFinite (o .alpha) && isFinite (o .p) && isFinite (o .t) in
+    let no-line = not (lt (o .p) straight) in
+    let first = test-passed finite 6 (guard no-line 7 (pass o)) h in
+    let each = five (isFinite (o .s)) (isFinite q) (isFinite (o .alpha)) (isFinite (o .p)) (isFinite (o .t)) (first .0) in
+    (pass-once (test-passed no-line 7 (pass o) (first .1) .1), record { s-number = (f .0, each .0); alpha-number = (f .1, each .2); p-number = (f .2, each .3); t-number = (f .3, each .4) })
+
+scaled-is : (mu : Float) (r v : Vector) (dt : Float) (e : Scaled) → scaledOf mu r v dt ≡ pass e → Numbers e
+unfolding scaledBy scaledOf
+scaled-is mu r v dt e h =
+    let R = rows-passed (radiusOf r) (λ r0. onward (unitOf mu r0) (λ f. scaledBy r v dt r0 (f .0) (f .1))) h in
+    let r0 = R .0 in
+    let F = rows-passed (unitOf mu r0) (λ f. scaledBy r v dt r0 (f .0) (f .1)) (R .2) in
+    let f1 = F .0 .0 in
+    let f4 = F .0 .1 in
+    let w = times f1 v in
+    let s = dot (over r r0) w in
+    let q = dot w w in
+    let o : Scaled = record { s = s; alpha = two ⊖ q; p = q ⊖ s ⊗ s; t = dt ⊘ f4; f4 = f4; r0 = r0; r = r; v = v } in
+    let is = tested-is q o e (test-passed (allFinite w) 6 (testedBy q o) (F .2) .1) (
+      add-fits binary64 (over r r0 .x ⊗ w .x ⊕ over r r0 .y ⊗ w .y) (over r r0 .z ⊗ w .z),
+      sub-fits binary64 two q,
+      sub-fits binary64 q (s ⊗ s),
+      div-fits binary64 dt f4,
+    ) in
+    subst Numbers (is .0) (is .1)
+
+-- ---- the entry
+
+-- a far end x of a starting bracket that was taken: its time is finite and not short of t
+pub record Reaches (o : Scaled) (far : Float) : Type 0 where
+  pub finite : isFinite (timeAt o far) ≡ true
+  pub reaches : cond (le nought (o .t)) (lt (timeAt o far) (o .t)) (lt (o .t) (timeAt o far)) ≡ false
+
+pub record Entered (p : Problem) (o : Scaled) (b : Bracket) : Type 0 where
+  pub inputs : inputsTested (p .mu) (p .r) (p .v) (p .dt) ≡ pass tt
+  pub least : 1 ≤ p .limit
+  pub most : p .limit ≤ 100
+  pub scaled : scaledOf (p .mu) (p .r) (p .v) (p .dt) ≡ pass o
+  pub numbers : Numbers o
+  pub far : Float
+  pub far-is : farEndOf (o .alpha) ≡ pass far
+  pub far-reaches : Reaches o (cond (le nought (o .t)) far (neg far))
+  pub bracket-is : b ≡ startingBracket (o .t) (pointAt (timeAt o) (cond (le nought (o .t)) far (neg far)))
+
+bracketed-is : (o : Scaled) (far : Float) (e : Scaled × Bracket) → bracketedBy o far ≡ pass e → Reaches o far × (e ≡ (o, startingBracket (o .t) (pointAt (timeAt o) far)))
+unfolding bracketedBy
+bracketed-is o far e h =
+    let short = cond (le nought (o .t)) (lt (timeAt o far) (o .t)) (lt (o .t) (timeAt o far)) in
+    let answer : Checked (Scaled × Bracket) = pass (o, startingBracket (o .t) (pointAt (timeAt o) far)) in
+    let first = test-passed (isFinite (timeAt o far)) 6 (guard (not short) 8 answer) h in
+    let second = test-passed (not short) 8 answer (first .1) in
+    (record { finite = first .0; reaches = not-true short (second .0) }, sym (pass-once (second .1)))
+
+pub entered : (p : Problem) (o : Scaled) (b : Bracket) → entryOf p ≡ pass (o, b) → Entered p o b
+unfolding startOf entryOf
+entered p o b h =
+    let in-range = leb 1 (p .limit) && leb (p .limit) 100 in
+    let row = onward (scaledOf (p .mu) (p .r) (p .v) (p .dt)) startOf in
+    let inputs = rows-passed (inputsTested (p .mu) (p .r) (p .v) (p .dt)) (λ good. guard in-range 3 row) h in
+    let third = test-passed in-range 3 row (inputs .2) in
+    let range = both (leb 1 (p .limit)) (leb (p .limit) 100) .0 (third .0) in
+    let S = rows-passed (scaledOf (p .mu) (p .r) (p .v) (p .dt)) startOf (third .1) in
+    let e : Scaled = S .0 in
+    let X = rows-passed (farEndOf (e .alpha)) (λ x. bracketedBy e (cond (le nought (e .t)) x (neg x))) (S .2) in
+    let B = bracketed-is e (cond (le nought (e .t)) (X .0) (neg (X .0))) (o, b) (X .2) in
+    subst (λ (eb : Scaled × Bracket). Entered p (eb .0) (eb .1)) (sym (B .1)) (record {
+      inputs = inputs .1;
+      scaled = S .1;
+      numbers = scaled-is (p .mu) (p .r) (p .v) (p .dt) e (S .1);
+      least = leb-true 1 (p .limit) (is-true (leb 1 (p .limit)) (range .0));
+      most = leb-true (p .limit) 100 (is-true (leb (p .limit) 100) (range .1));
+      far = X .0;
+      far-is = X .1;
+      far-reaches = B .0;
+      bracket-is = refl;
+    })
+
+-- where the time at x is finite, it and the wanted one are numbers
+pub times-are : (p : Problem) (o : Scaled) (b : Bracket) → Entered p o b → (x : Float) → isFinite (timeAt o x) ≡ true → Number binary64 (timeAt o x) × Number binary64 (o .t)
+times-are p o b e x f = ((time-fits o x, passed f), e .numbers .t-number)

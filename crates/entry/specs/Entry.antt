@@ -1,0 +1,132 @@
+-- The tests before the first guess and what they compute: document 01, "From the state to the scaled problem" and "Refusal numbers, in order
+-- of test". Definitions only.
+use mathlib.Core.Bool.{Bool, cond, not, _&&_}
+use lib.Dec.{leb}
+use lib.Ieee.{Float, lt, le, ne, neg}
+use Rattle.exact.specs.Numbers.{_⊖_, _⊗_, _⊘_, numberOf, nought, two, isFinite, magnitude}
+use Rattle.root.specs.Said as root
+use Rattle.root.specs.Root.{rootOf}
+use Rattle.search.specs.declared.Point.{Point}
+use Rattle.search.specs.declared.Bracket.{Bracket}
+use Rattle.conic.specs.declared.Vector.{Vector}
+use Rattle.conic.specs.declared.Problem.{Problem}
+use Rattle.conic.specs.declared.Scaled.{Scaled}
+use Rattle.rows.specs.Rows.{Checked, pass, refuse, guard, onward}
+use Rattle.conic.specs.Vectors.{dot, allFinite, over, times}
+use Rattle.conic.specs.TimeAndRatio.{timeAt}
+
+-- 1. "an input number is NaN or infinite": none is. The last is the time or the angle.
+abbrev pub givenFinite : (mu : Float) (r v : Vector) (last : Float) → Bool
+givenFinite mu r v last = isFinite mu && allFinite r && allFinite v && isFinite last
+
+-- 1, then 2. "mu ≤ 0": the tests that Kepler and Theta begin with
+unfoldable pub inputsTested : (mu : Float) (r v : Vector) (last : Float) → Checked (Unit {0})
+inputsTested mu r v last =
+    guard (givenFinite mu r v last) 1
+    (guard (lt nought mu) 2
+    (pass tt))
+
+-- not "zero or not finite"
+abbrev pub isUsable : Float → Bool
+isUsable x = isFinite x && ne x nought
+
+-- 14. "a root inside Kepler or Theta was refused"
+abbrev pub fromRoot : root.Said → Checked Float
+fromRoot (root.root x) = pass x
+fromRoot (root.refused k) = refuse 14
+
+unfoldable pub rooted : Float → Checked Float
+rooted x = fromRoot (rootOf x)
+
+-- r0 = root(r·r). 5. "r·r or r0 is zero or not finite"
+unfoldable pub radiusOf : Vector → Checked Float
+radiusOf r =
+    guard (isUsable (dot r r)) 5
+    (onward (rooted (dot r r)) (λ r0.
+    guard (isUsable r0) 5
+    (pass r0)))
+
+-- f1 = root(r0/mu); f4 = r0*f1. 6. "r0/mu (tested before its root), f1 or f4 is zero or not finite"
+unfoldable pub unitOf : (mu r0 : Float) → Checked (Float × Float)
+unitOf mu r0 =
+    guard (isUsable (r0 ⊘ mu)) 6
+    (onward (rooted (r0 ⊘ mu)) (λ f1.
+    guard (isUsable f1 && isUsable (r0 ⊗ f1)) 6
+    (pass (f1, r0 ⊗ f1))))
+
+-- 2^-20
+abbrev pub straight : Float
+straight = numberOf 0x3eb0_0000_0000_0000
+
+-- 6. "w, s, q, alpha, p, t not finite", from s on. 7. "p < 2^-20 (straight line)"
+unfoldable pub testedBy : (q : Float) → Scaled → Checked Scaled
+testedBy q o =
+    guard (isFinite (o .s) && isFinite q && isFinite (o .alpha) && isFinite (o .p) && isFinite (o .t)) 6
+    (guard (not (lt (o .p) straight)) 7
+    (pass o))
+
+-- "u = r/r0 and w = f1*v by component; s = u·w; q = w·w; alpha = 2 - q; p = q - s*s; t = dt/f4". 6. for w, and the tests above
+unfoldable pub scaledBy : (r v : Vector) (dt r0 f1 f4 : Float) → Checked Scaled
+scaledBy r v dt r0 f1 f4 =
+    let u = over r r0 in
+    let w = times f1 v in
+    let s = dot u w in
+    let q = dot w w in
+    let alpha = two ⊖ q in
+    let p = q ⊖ s ⊗ s in
+    let t = dt ⊘ f4 in
+    guard (allFinite w) 6
+    (testedBy q (record { s = s; alpha = alpha; p = p; t = t; f4 = f4; r0 = r0; r = r; v = v }))
+
+-- the scaled problem
+unfoldable pub scaledOf : (mu : Float) (r v : Vector) (dt : Float) → Checked Scaled
+scaledOf mu r v dt = onward (radiusOf r) (λ r0. onward (unitOf mu r0) (λ f. scaledBy r v dt r0 (f .0) (f .1)))
+
+abbrev pub sixtyFourth : Float
+sixtyFourth = numberOf 0x3f90_0000_0000_0000
+
+abbrev pub sixtyFour : Float
+sixtyFour = numberOf 0x4050_0000_0000_0000
+
+abbrev pub eight : Float
+eight = numberOf 0x4020_0000_0000_0000
+
+-- "Far end X = 64 if |alpha| ≤ 1/64, else 8/root(|alpha|)"
+unfoldable pub farEndOf : (alpha : Float) → Checked Float
+farEndOf alpha = cond (le (magnitude alpha) sixtyFourth) (pass sixtyFour) (onward (rooted (magnitude alpha)) (λ k. pass (eight ⊘ k)))
+
+-- "Starting bracket: 0 to X if t ≥ 0, else -X to 0." "The time kept for the end 0 is 0, for X or -X its T."
+abbrev pub zeroEnd : Point
+zeroEnd = record { x = nought; time = nought }
+
+abbrev pub startingBracket : (t : Float) (far : Point) → Bracket
+startingBracket t far = cond (le nought t) (record { lo = zeroEnd; hi = far }) (record { lo = far; hi = zeroEnd })
+
+-- 6. "T at the far end not finite", "tested after 7 and just before 8". 8. "t ≥ 0 and T(X) < t, or t < 0 and T(-X) > t"
+unfoldable pub bracketedBy : Scaled → (far : Float) → Checked (Scaled × Bracket)
+bracketedBy o far =
+    let t = o .t in
+    let time = timeAt o far in
+    guard (isFinite time) 6
+    (guard (not (cond (le nought t) (lt time t) (lt t time))) 8
+    (pass (o, startingBracket t (record { x = far; time = time }))))
+
+unfoldable pub startOf : Scaled → Checked (Scaled × Bracket)
+startOf o = onward (farEndOf (o .alpha)) (λ x. bracketedBy o (cond (le nought (o .t)) x (neg x)))
+
+-- Kepler: 1, 2, then 3. "limit not 1..100", and the tests above
+unfoldable pub entryOf : Problem → Checked (Scaled × Bracket)
+entryOf p =
+    onward (inputsTested (p .mu) (p .r) (p .v) (p .dt)) (λ good.
+    guard (leb 1 (p .limit) && leb (p .limit) 100) 3
+    (onward (scaledOf (p .mu) (p .r) (p .v) (p .dt)) startOf))
+
+abbrev pub largestAngle : Float
+largestAngle = numberOf 0x4019_0000_0000_0000
+
+-- Theta: 1, 2, then 4. "|a| > 6.25", and the tests above but for t and the far end, which it has not: with dt 0, t is 0
+unfoldable pub angleEntryOf : (mu : Float) (r v : Vector) (a : Float) → Checked Scaled
+angleEntryOf mu r v a =
+    onward (inputsTested mu r v a) (λ good.
+    guard (le (magnitude a) largestAngle) 4
+    (scaledOf mu r v nought))

@@ -1,0 +1,36 @@
+-- What the answers of the entry tests say, in document 01's numbers and values. Definitions only.
+use lib.Ieee.{Float}
+use Rattle.search.specs.declared.Bracket.{Bracket}
+use Rattle.rows.specs.Rows.{Checked, pass, refuse}
+use Rattle.conic.specs.declared.Scaled.{Scaled}
+use Rattle.conic.specs.Said.{numberOf}
+use Rattle.entry.specs.declared.Number.{Number}
+use Rattle.entry.specs.declared.Number.the-variants as number
+use Rattle.entry.specs.declared.TimeUnit.{TimeUnit}
+use Rattle.entry.specs.declared.TimeUnit.the-variants as unit
+use Rattle.entry.specs.declared.Inputs.{Inputs}
+use Rattle.entry.specs.declared.Inputs.the-variants as inputs
+use Rattle.entry.specs.declared.Scaling.{Scaling}
+use Rattle.entry.specs.declared.Scaling.the-variants as scaling
+use Rattle.entry.specs.declared.Start.{Start}
+use Rattle.entry.specs.declared.Start.the-variants as start
+
+abbrev pub passedInputs : Inputs → Checked (Unit {0})
+passedInputs inputs.Passed = pass tt
+passedInputs (inputs.Refused why) = refuse (numberOf why)
+
+abbrev pub passedNumber : Number → Checked Float
+passedNumber (number.Passed x) = pass x
+passedNumber (number.Refused why) = refuse (numberOf why)
+
+abbrev pub passedUnit : TimeUnit → Checked (Float × Float)
+passedUnit (unit.Passed f1 f4) = pass (f1, f4)
+passedUnit (unit.Refused why) = refuse (numberOf why)
+
+abbrev pub passedScaled : Scaling → Checked Scaled
+passedScaled (scaling.Passed o) = pass o
+passedScaled (scaling.Refused why) = refuse (numberOf why)
+
+abbrev pub passedStart : Start → Checked (Scaled × Bracket)
+passedStart (start.Passed o b) = pass (o, b)
+passedStart (start.Refused why) = refuse (numberOf why)

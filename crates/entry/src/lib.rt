@@ -1,0 +1,278 @@
+// The tests before the first guess, in the order of document 01's refusal table, and what they
+// compute on the way: the scaled problem and its starting bracket. Document 01, "From the state to the
+// scaled problem", and refusals 1 to 8 and 14.
+//
+// Both public functions are proved and total: each contract is an equation with a definition of
+// `specs/Entry.antt`, for every input, NaN and infinities included. The crate assumes nothing.
+use conic::Problem;
+use conic::Reason;
+use conic::Scaled;
+use conic::Vector;
+use root::Answer;
+use search::Bracket;
+use search::Point;
+ghost use mathlib.Core.Path.{_≡_};
+ghost use Rattle.conic.specs.Vectors.{dot, over};
+ghost use Rattle.entry.specs.Said.{passedInputs, passedNumber, passedUnit, passedScaled, passedStart};
+ghost use Rattle.entry.specs.Entry.{givenFinite, inputsTested, isUsable, radiusOf, unitOf, testedBy, scaledBy, scaledOf, farEndOf, bracketedBy, startOf, entryOf, angleEntryOf};
+
+// 2^-20: a smaller p is a straight line.
+const STRAIGHT: f64 = 9.5367431640625e-07;
+
+const SIXTY_FOURTH: f64 = 0.015625;
+
+const LARGEST_ANGLE: f64 = 6.25;
+
+// A scaled problem, or why there is none.
+pub enum Scaling {
+    Passed(Scaled),
+    Refused(Reason),
+}
+
+// A scaled problem with its starting bracket, or why there is none.
+pub enum Start {
+    Passed(Scaled, Bracket),
+    Refused(Reason),
+}
+
+// A number on the way, or why there is none.
+enum Number {
+    Passed(f64),
+    Refused(Reason),
+}
+
+// f1 and the time unit f4, or why there are none.
+enum TimeUnit {
+    Passed(f64, f64),
+    Refused(Reason),
+}
+
+// Whether the numbers given can be worked with, or why not.
+enum Inputs {
+    Passed,
+    Refused(Reason),
+}
+
+// Kepler's entry.
+pub fn entry(p: Problem) -> Start
+    ensures { λ r. ⌜ passedStart r ≡ entryOf p ⌝ }
+{
+    let limit = p.limit;
+    let r = p.r;
+    let v = p.v;
+    let inputs = first_tests(p.mu, r, v, p.dt);
+    if let Inputs::Refused(why) = inputs {
+        return Start::Refused(why);
+    }
+    if !((1 <= limit) & (limit <= 100)) {
+        return Start::Refused(Reason::LimitOutOfRange);
+    }
+    match scale(p.mu, r, v, p.dt) {
+        Scaling::Passed(o) => started(o),
+        Scaling::Refused(why) => Start::Refused(why),
+    }
+}
+
+// Theta's entry: it has no time, so its scaled problem is that of dt 0.
+pub fn angle_entry(mu: f64, r: Vector, v: Vector, a: f64) -> Scaling
+    ensures { λ x. ⌜ passedScaled x ≡ angleEntryOf mu r v a ⌝ }
+{
+    let inputs = first_tests(mu, r, v, a);
+    if let Inputs::Refused(why) = inputs {
+        return Scaling::Refused(why);
+    }
+    if !(exact::absolute(a) <= LARGEST_ANGLE) {
+        return Scaling::Refused(Reason::AngleTooLarge);
+    }
+    scale(mu, r, v, 0.0)
+}
+
+// The tests that both begin with. The last number is the time or the angle.
+fn first_tests(mu: f64, r: Vector, v: Vector, last: f64) -> Inputs
+    ensures { λ x. ⌜ passedInputs x ≡ inputsTested mu r v last ⌝ }
+{
+    if !given(mu, r, v, last) {
+        return Inputs::Refused(Reason::InputNotFinite);
+    }
+    if !(0.0 < mu) {
+        return Inputs::Refused(Reason::MuNotPositive);
+    }
+    Inputs::Passed
+}
+
+fn given(mu: f64, r: Vector, v: Vector, last: f64) -> bool
+    ensures { λ x. ⌜ x ≡ givenFinite mu r v last ⌝ }
+{
+    exact::finite(mu)
+        & conic::vectors::all_finite(r)
+        & conic::vectors::all_finite(v)
+        & exact::finite(last)
+}
+
+// Neither zero nor NaN nor infinite.
+fn usable(x: f64) -> bool
+    ensures { λ r. ⌜ r ≡ isUsable x ⌝ }
+{
+    exact::finite(x) & (x != 0.0)
+}
+
+// r0.
+fn radius(r: Vector) -> Number
+    ensures { λ x. ⌜ passedNumber x ≡ radiusOf r ⌝ }
+{
+    let square = product(r, r);
+    if !usable(square) {
+        return Number::Refused(Reason::NoRadius);
+    }
+    let Answer::Root(r0) = root::root(square) else {
+        return Number::Refused(Reason::RootRefused);
+    };
+    if !usable(r0) {
+        return Number::Refused(Reason::NoRadius);
+    }
+    Number::Passed(r0)
+}
+
+// f1 and f4.
+fn time_unit(mu: f64, r0: f64) -> TimeUnit
+    ensures { λ x. ⌜ passedUnit x ≡ unitOf mu r0 ⌝ }
+{
+    let quotient = r0 / mu;
+    if !usable(quotient) {
+        return TimeUnit::Refused(Reason::NotFinite);
+    }
+    let Answer::Root(f1) = root::root(quotient) else {
+        return TimeUnit::Refused(Reason::RootRefused);
+    };
+    let f4 = r0 * f1;
+    if !(usable(f1) & usable(f4)) {
+        return TimeUnit::Refused(Reason::NotFinite);
+    }
+    TimeUnit::Passed(f1, f4)
+}
+
+fn scale(mu: f64, r: Vector, v: Vector, dt: f64) -> Scaling
+    ensures { λ x. ⌜ passedScaled x ≡ scaledOf mu r v dt ⌝ }
+{
+    match radius(r) {
+        Number::Refused(why) => Scaling::Refused(why),
+        Number::Passed(r0) => match time_unit(mu, r0) {
+            TimeUnit::Refused(why) => Scaling::Refused(why),
+            TimeUnit::Passed(f1, f4) => scale_by(r, v, dt, r0, f1, f4),
+        },
+    }
+}
+
+fn scale_by(r: Vector, v: Vector, dt: f64, r0: f64, f1: f64, f4: f64) -> Scaling
+    ensures { λ x. ⌜ passedScaled x ≡ scaledBy r v dt r0 f1 f4 ⌝ }
+{
+    let u = divided(r, r0);
+    let w = conic::vectors::scaled(f1, v);
+    let s = product(u, w);
+    let q = product(w, w);
+    let alpha = 2.0 - q;
+    let p = q - s * s;
+    let t = dt / f4;
+    if !conic::vectors::all_finite(w) {
+        return Scaling::Refused(Reason::NotFinite);
+    }
+    tested(
+        q,
+        Scaled {
+            s,
+            alpha,
+            p,
+            t,
+            f4,
+            r0,
+            r,
+            v,
+        },
+    )
+}
+
+// The scaled problem where its numbers, and q, are finite and it is no straight line.
+fn tested(q: f64, o: Scaled) -> Scaling
+    ensures { λ x. ⌜ passedScaled x ≡ testedBy q o ⌝ }
+{
+    if !(exact::finite(o.s)
+        & exact::finite(q)
+        & exact::finite(o.alpha)
+        & exact::finite(o.p)
+        & exact::finite(o.t)) {
+        return Scaling::Refused(Reason::NotFinite);
+    }
+    if o.p < STRAIGHT {
+        return Scaling::Refused(Reason::StraightLine);
+    }
+    Scaling::Passed(o)
+}
+
+// X.
+fn far_end(alpha: f64) -> Number
+    ensures { λ x. ⌜ passedNumber x ≡ farEndOf alpha ⌝ }
+{
+    let size = exact::absolute(alpha);
+    if size <= SIXTY_FOURTH {
+        return Number::Passed(64.0);
+    }
+    let Answer::Root(k) = root::root(size) else {
+        return Number::Refused(Reason::RootRefused);
+    };
+    Number::Passed(8.0 / k)
+}
+
+// The starting bracket, where the far end is not short of the wanted time.
+fn started(o: Scaled) -> Start
+    ensures { λ x. ⌜ passedStart x ≡ startOf o ⌝ }
+{
+    match far_end(o.alpha) {
+        Number::Refused(why) => Start::Refused(why),
+        Number::Passed(x) => {
+            if 0.0 <= o.t {
+                bracketed(o, x)
+            } else {
+                bracketed(o, -x)
+            }
+        }
+    }
+}
+
+fn bracketed(o: Scaled, far: f64) -> Start
+    ensures { λ x. ⌜ passedStart x ≡ bracketedBy o far ⌝ }
+{
+    let t = o.t;
+    let time = o.time_at(far);
+    if !exact::finite(time) {
+        return Start::Refused(Reason::NotFinite);
+    }
+    let zero = Point { x: 0.0, time: 0.0 };
+    let end = Point { x: far, time };
+    if 0.0 <= t {
+        if time < t {
+            return Start::Refused(Reason::BeyondFarEnd);
+        }
+        return Start::Passed(o, Bracket { lo: zero, hi: end });
+    }
+    if t < time {
+        return Start::Refused(Reason::BeyondFarEnd);
+    }
+    Start::Passed(o, Bracket { lo: end, hi: zero })
+}
+
+// Three products, added in order.
+fn product(a: Vector, b: Vector) -> f64
+    ensures { λ r. ⌜ r ≡ dot a b ⌝ }
+{
+    a.x * b.x + a.y * b.y + a.z * b.z
+}
+
+fn divided(a: Vector, by: f64) -> Vector
+    ensures { λ r. ⌜ r ≡ over a by ⌝ }
+{
+    Vector {
+        x: a.x / by,
+        y: a.y / by,
+        z: a.z / by,
+    }
+}
