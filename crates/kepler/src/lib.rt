@@ -1,5 +1,5 @@
-// Kepler: the state after a time. Document 01, "The search", over the entry tests and the
-// universal functions of `conic`.
+// Kepler: the state after a time. Document 01, "The search", over the tests of `entry` and the time
+// and unfolding of `conic`.
 //
 // `kepler` is proved and total: its contract is an equation with the definition of `specs/Kepler.antt`,
 // which fixes guess, bracket and count after each step. The crate assumes nothing.
