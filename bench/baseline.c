@@ -324,14 +324,15 @@ static Outcome kepler(const Problem *p)
     return refusal ? refused(refusal, 0) : search(&o, b, p->limit);
 }
 
-double NAMED(predict)(const uint8_t *problem)
+uint32_t NAMED(predict)(const uint8_t *problem, double *sum)
 {
     Problem p = problem_of(problem);
     Outcome out = kepler(&p);
     if (out.refusal)
-        return -out.refusal;
+        return out.refusal;
     Vector r = out.state.r, v = out.state.v;
-    return out.x + r.x + r.y + r.z + v.x + v.y + v.z;
+    *sum = out.x + r.x + r.y + r.z + v.x + v.y + v.z;
+    return 0;
 }
 
 int NAMED(card)(const uint8_t *problem, uint8_t *body)

@@ -11,10 +11,11 @@ typedef __SIZE_TYPE__ size_t;
 
 enum { PROBLEM_SIZE = 68, SOLVED_SIZE = 128, REFUSED_SIZE = 80, MOST_CARDS = 256 };
 
-/* Of a problem's bytes: x and the six numbers of the state added up, or minus the refusal's number. */
-double tailfiddle_predict(const uint8_t *problem, size_t length);
-double digit_predict(const uint8_t *problem);
-double hardware_predict(const uint8_t *problem);
+/* Of a problem's bytes: 0, and in *sum x and the six numbers of the state added up; or the refusal's
+ * number, and *sum is left alone. */
+uint32_t tailfiddle_predict(const uint8_t *problem, size_t length, double *sum);
+uint32_t digit_predict(const uint8_t *problem, double *sum);
+uint32_t hardware_predict(const uint8_t *problem, double *sum);
 
 /* Of a deck: the mean residual, NaN where no card is solved, or minus the refusal's number. */
 double tailfiddle_check(const uint8_t *deck, size_t length, uint32_t *verdicts, size_t room);

@@ -8,6 +8,7 @@ use conic::Problem;
 use conic::Reason;
 use conic::Scaled;
 use conic::Vector;
+use conic::vectors;
 use root::Answer;
 use search::Bracket;
 use search::Point;
@@ -103,10 +104,7 @@ fn first_tests(mu: f64, r: Vector, v: Vector, last: f64) -> Inputs
 fn given(mu: f64, r: Vector, v: Vector, last: f64) -> bool
     ensures { λ x. ⌜ x ≡ givenFinite mu r v last ⌝ }
 {
-    exact::finite(mu)
-        & conic::vectors::all_finite(r)
-        & conic::vectors::all_finite(v)
-        & exact::finite(last)
+    exact::finite(mu) & vectors::all_finite(r) & vectors::all_finite(v) & exact::finite(last)
 }
 
 // Neither zero nor NaN nor infinite.
@@ -167,13 +165,13 @@ fn scale_by(r: Vector, v: Vector, dt: f64, r0: f64, f1: f64, f4: f64) -> Scaling
     ensures { λ x. ⌜ passedScaled x ≡ scaledBy r v dt r0 f1 f4 ⌝ }
 {
     let u = divided(r, r0);
-    let w = conic::vectors::scaled(f1, v);
+    let w = vectors::scaled(f1, v);
     let s = product(u, w);
     let q = product(w, w);
     let alpha = 2.0 - q;
     let p = q - s * s;
     let t = dt / f4;
-    if !conic::vectors::all_finite(w) {
+    if !vectors::all_finite(w) {
         return Scaling::Refused(Reason::NotFinite);
     }
     tested(

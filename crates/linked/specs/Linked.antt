@@ -1,4 +1,4 @@
--- What an answer is as one number, for callers in C. Definitions only.
+-- What an answer is in single numbers, for callers in C. Definitions only.
 use Prim.Native.Nat.{ℕ}
 use lib.IntN.{pos}
 use lib.Ieee.{Float, nan, binary64, neg, ofInt}
@@ -9,19 +9,25 @@ use Rattle.conic.specs.Said as conic
 use Rattle.deck.specs.declared.Totals.{Totals}
 use Rattle.deck.specs.Tally.{Residuals, absent, known}
 
--- a refusal is its number with a minus
-abbrev pub refusal : ℕ → Float
-refusal k = neg (ofInt binary64 (pos k))
-
 -- x, position and velocity, added left to right
 abbrev pub stateSum : Float → State → Float
 stateSum x state = x ⊕ state .r .x ⊕ state .r .y ⊕ state .r .z ⊕ state .v .x ⊕ state .v .y ⊕ state .v .z
 
--- an outcome: "a case for solved (x, count, state), a case for refused and a case for refused with bracket"
-abbrev pub sumOf : conic.Said → Float
-sumOf (conic.solved x n state) = stateSum x state
-sumOf (conic.refused k n) = refusal k
-sumOf (conic.refusedWithBracket k n lo hi) = refusal k
+-- the number of an outcome's refusal; 0 where it is solved, which is no refusal's number
+abbrev pub refusalIn : conic.Said → ℕ
+refusalIn (conic.solved x n state) = 0
+refusalIn (conic.refused k n) = k
+refusalIn (conic.refusedWithBracket k n lo hi) = k
+
+-- what a lent number becomes: the sum of a solved outcome; a refusal leaves it
+abbrev pub sumAfter : conic.Said → Float → Float
+sumAfter (conic.solved x n state) lent = stateSum x state
+sumAfter (conic.refused k n) lent = lent
+sumAfter (conic.refusedWithBracket k n lo hi) lent = lent
+
+-- the number of a deck's refusal with a minus, since no mean is below zero
+abbrev pub minusNumber : ℕ → Float
+minusNumber k = neg (ofInt binary64 (pos k))
 
 -- the mean of an accepted deck; NaN where it is absent
 abbrev pub meanOf : Residuals → Float
@@ -31,4 +37,4 @@ meanOf (known mean worst) = mean
 -- the answer on a deck: "Tally", or "Refused decks"
 abbrev pub meanIn : Checked (Totals × Residuals) → Float
 meanIn (pass tally) = meanOf (tally .1)
-meanIn (refuse k) = refusal k
+meanIn (refuse k) = minusNumber k

@@ -1,47 +1,45 @@
 // Prediction and check as functions that a C program links: `rt staticlib linked`.
 //
-// Each gives one number, so that a caller in C needs no layout of ours. A slice is a pointer and a
-// length. Both functions are proved and total, and the crate assumes nothing.
+// What is asked and answered is bytes and single numbers, so that a caller in C needs no layout of
+// ours. A slice is a pointer and a length. Both functions are proved and total, and the crate assumes
+// nothing.
 use conic::Outcome;
 use conic::State;
 use deck::Answer;
 use deck::Residuals;
 ghost use mathlib.Core.Path.{_≡_};
 ghost use lib.ListN.{length};
-ghost use Rattle.conic.specs.Said as conic;
 ghost use Rattle.card.specs.Fields.{problemOf};
 ghost use Rattle.kepler.specs.Kepler.{keplerOf};
 ghost use Rattle.deck.specs.Said as deck;
 ghost use Rattle.deck.specs.Check.{answerOf, listAfter};
-ghost use Rattle.linked.specs.Linked.{refusal, stateSum, sumOf, meanIn};
+ghost use Rattle.linked.specs.Linked.{refusalIn, stateSum, sumAfter, minusNumber, meanIn};
 
-// Kepler on the problem with which the bytes begin: x + rx + ry + rz + vx + vy + vz where it is
-// solved, minus the refusal's number where it is refused.
+// Kepler on the problem with which the bytes begin. Where it is solved the answer is 0, and `sum`
+// becomes x + rx + ry + rz + vx + vy + vz; else the refusal's number, and `sum` stays as it was lent.
 #[no_mangle]
-pub extern "C" fn tailfiddle_predict(problem: &[u8]) -> f64
-    ensures { λ r. ⌜ r ≡ sumOf (keplerOf (problemOf (now (problem .entry)))) ⌝ }
+pub extern "C" fn tailfiddle_predict(problem: &[u8], sum: &mut f64) -> u32
+    ensures { λ r. ⌜ r ≡ refusalIn (keplerOf (problemOf (now (problem .entry)))) ⌝ }
+    ensures { λ _. ⌜ now (sum .exit) ≡ sumAfter (keplerOf (problemOf (now (problem .entry)))) (now (sum .entry)) ⌝ }
 {
-    sum_of(kepler::kepler(card::problem(problem)))
+    match kepler::kepler(card::problem(problem)) {
+        Outcome::Solved { x, count: _, state } => {
+            *sum = state_sum(x, state);
+            0
+        }
+        Outcome::Refused(why, _) => why.number(),
+        Outcome::RefusedWithBracket(why, _, _, _) => why.number(),
+    }
 }
 
-// The check of a deck, with the verdicts in the lent list: the mean residual, NaN where it is absent,
-// minus the refusal's number where the deck is refused.
+// The check of a deck, with the verdicts in the lent list: the mean residual, which is not below
+// zero; NaN where it is absent; minus the refusal's number where the deck is refused.
 #[no_mangle]
 pub extern "C" fn tailfiddle_check(deck: &[u8], verdicts: &mut [u32]) -> f64
     ensures { λ r. ⌜ r ≡ meanIn (answerOf (now (deck .entry)) (length (now (verdicts .entry)))) ⌝ }
     ensures { λ r. ⌜ now (verdicts .exit) ≡ listAfter (now (deck .entry)) (now (verdicts .entry)) ⌝ }
 {
     mean_in(deck::check(deck, verdicts))
-}
-
-fn sum_of(outcome: Outcome) -> f64
-    ensures { λ r. ⌜ r ≡ sumOf (conic.said outcome) ⌝ }
-{
-    match outcome {
-        Outcome::Solved { x, count: _, state } => state_sum(x, state),
-        Outcome::Refused(why, _) => minus(why.number()),
-        Outcome::RefusedWithBracket(why, _, _, _) => minus(why.number()),
-    }
 }
 
 fn state_sum(x: f64, state: State) -> f64
@@ -63,7 +61,7 @@ fn mean_in(answer: Answer) -> f64
 }
 
 fn minus(number: u32) -> f64
-    ensures { λ r. ⌜ r ≡ refusal number ⌝ }
+    ensures { λ r. ⌜ r ≡ minusNumber number ⌝ }
 {
     -(number as f64)
 }
