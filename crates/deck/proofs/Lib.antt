@@ -6,3 +6,4 @@ pub mod Opened
 pub mod Accepted
 pub mod Theorems
 pub mod Worst
+pub mod Mean

@@ -100,7 +100,7 @@ worst-is-largest verdicts all some m =
 -- ---- in a deck
 
 -- the residuals of a deck's cards are without a minus
-residuals-plus : (cards : List Card) (r : Float) → Among r (verdictsOf cards) → Plus r
+pub residuals-plus : (cards : List Card) (r : Float) → Among r (verdictsOf cards) → Plus r
 residuals-plus (c ∷ cards) r m = go (verdictOn (c .kind) (c .body)) refl (residuals-plus cards r) m
   where
     go : (v : Said) → verdictOn (c .kind) (c .body) ≡ v → (Among r (verdictsOf cards) → Plus r) → Among r (v ∷ verdictsOf cards) → Plus r
