@@ -1,15 +1,15 @@
 -- What verdict 0 means, and what gets it: document 01, demand 3. The tests of a card say it (`Tests`); the one on the times says that their exact
 -- gap is at most 2^-36 + 2^-89, and a gap of at most 2^-36 passes it.
 use mathlib.Core.Path.{_≡_, refl, sym, ap, subst}
-use mathlib.Core.Bool.{true, false, true≢false}
+use mathlib.Core.Bool.{true, true≢false}
 use mathlib.Core.List.{List}
 use Prim.Native.Nat.{ℕ, _≤_}
 use lib.Ieee.{Float, binary64}
 use lib.Ieee.Bits.{is-true}
 use lib.Ieee.Fits.{sub-fits}
-use Rattle.exact.specs.Numbers.{_⊖_, isFinite, Number, magnitude, isNear, minus, gap, inSteps, mostGap}
+use Rattle.exact.specs.Numbers.{_⊖_, isFinite, magnitude, isNear, gap, inSteps, mostGap}
 use Rattle.exact.proofs.Basics.{passed}
-use Rattle.exact.proofs.Signs.{magnitude-plus}
+use Rattle.exact.proofs.Signs.{Plus, magnitude-plus}
 use Rattle.exact.proofs.Tolerance.{near-difference, gap-of-near, near-of-gap}
 use Rattle.search.specs.declared.Bracket.{Bracket}
 use Rattle.search.specs.Search.{within}
@@ -121,11 +121,11 @@ never-solved : (c : Checked (Unit {0})) (r : Float) → asRefused c ≡ solved r
 never-solved (pass good) r e = true≢false cc
 never-solved (refuse k) r e = true≢false cc
 
-pub residual-plus : (k : Kind) (body : List ℕ) (r : Float) → verdictOn k body ≡ solved r → Number binary64 r × (minus r ≡ false)
+pub residual-plus : (k : Kind) (body : List ℕ) (r : Float) → verdictOn k body ≡ solved r → Plus r
 unfolding verdictOn
 residual-plus kind.Solved body r h =
     let S = solved-is body r (as-solved (solvedCard body) (pass r) h) in
     let time = timeAt (S .0) (xOf body) in
     let t = S .0 .t in
-    subst (λ (y : Float). Number binary64 y × (minus y ≡ false)) (sym (S .3)) (magnitude-plus (time ⊖ t) (sub-fits binary64 time t, near-difference time t (passed (S .2 .near))))
+    subst Plus (sym (S .3)) (magnitude-plus (time ⊖ t) (sub-fits binary64 time t, near-difference time t (passed (S .2 .near))))
 residual-plus kind.Refused body r h = absurd (never-solved (refusedCard body) r h)

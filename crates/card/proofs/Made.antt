@@ -18,9 +18,8 @@ use Rattle.conic.specs.declared.Problem.{Problem}
 use Rattle.rows.specs.Rows.{Checked}
 use Rattle.conic.specs.Said as conic
 use Rattle.conic.specs.Unfolding.{stateAt}
-use Rattle.conic.proofs.Arrival.{Numbered, numbered-is}
+use Rattle.conic.proofs.Arrival.{Numbered, numbered-is, Arrives}
 use Rattle.conic.proofs.Fitting.{StateFits, ProblemFits, state-fits}
-use Rattle.conic.proofs.Arrival.{Arrives}
 use Rattle.kepler.specs.Kepler.{keplerOf}
 use Rattle.kepler.proofs.Laws.{RefusalNumbered, refusal-numbered, IsSolved, solved-means}
 use Rattle.card.specs.declared.Kind.the-variants as kind

@@ -1,19 +1,11 @@
--- Vectors by component: document 01, "From the state to the scaled problem". Definitions only.
+-- Vectors by component: document 01, "From the state to the scaled problem" and "Unfolding". Definitions only.
 use mathlib.Core.Bool.{Bool, _&&_}
 use lib.Ieee.{Float}
-use Rattle.exact.specs.Numbers.{_⊕_, _⊗_, _⊘_, isFinite}
+use Rattle.exact.specs.Numbers.{_⊕_, _⊗_, isFinite}
 use Rattle.conic.specs.declared.Vector.{Vector}
-
--- "dot adds three products in order"
-abbrev pub dot : Vector → Vector → Float
-dot a b = a .x ⊗ b .x ⊕ a .y ⊗ b .y ⊕ a .z ⊗ b .z
 
 abbrev pub allFinite : Vector → Bool
 allFinite a = isFinite (a .x) && isFinite (a .y) && isFinite (a .z)
-
--- a/k
-abbrev pub over : Vector → Float → Vector
-over a k = record { x = a .x ⊘ k; y = a .y ⊘ k; z = a .z ⊘ k }
 
 -- k*a; a product of two numbers is the same in either order
 abbrev pub times : Float → Vector → Vector

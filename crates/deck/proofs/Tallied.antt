@@ -80,21 +80,29 @@ unsolved-changes-neither before v after u = same-residuals (countedAll nothing (
 -- ---- absent, never zero
 
 -- absent where no card is solved, and else known
-pub data Given (n : Running) : Type 0 where
+data Given (n : Running) : Type 0 where
   neither : n .solved ≡ 0 → residualsOf n ≡ absent → Given n
-  both : (n .solved ≡ 0 → ⊥) → (mean : Float) → residualsOf n ≡ known mean (n .worst) → Given n
+  both : (n .solved ≡ 0 → ⊥) → residualsOf n ≡ known (n .sum ⊘ ofInt binary64 (pos (n .solved))) (n .worst) → Given n
 
-pub given : (n : Running) → Given n
+given : (n : Running) → Given n
 unfolding residualsOf
 given n = go (eqb (n .solved) 0) refl
   where
     go : (test : Bool) → eqb (n .solved) 0 ≡ test → Given n
     go true e = neither (eqb-true (n .solved) 0 e) (rw e refl)
-    go false e = both (eqb-false (n .solved) 0 e) (n .sum ⊘ ofInt binary64 (pos (n .solved))) (rw e refl)
+    go false e = both (eqb-false (n .solved) 0 e) (rw e refl)
 
 pub absent-exactly : (n : Running) → (residualsOf n ≡ absent) ↔ (n .solved ≡ 0)
 absent-exactly n = go (given n)
   where
     go : Given n → (residualsOf n ≡ absent) ↔ (n .solved ≡ 0)
     go (neither z a) = ((λ h. z), λ h. a)
-    go (both nz mean k) = ((λ h. absurd (true≢false cc)), λ z. absurd (nz z))
+    go (both nz k) = ((λ h. absurd (true≢false cc)), λ z. absurd (nz z))
+
+-- where they are known: a card is solved, and what they are
+pub known-is : (n : Running) (mean worst : Float) → residualsOf n ≡ known mean worst → (n .solved ≡ 0 → ⊥) × (n .sum ⊘ ofInt binary64 (pos (n .solved)) ≡ mean) × (n .worst ≡ worst)
+known-is n mean worst h = go (given n)
+  where
+    go : Given n → (n .solved ≡ 0 → ⊥) × (n .sum ⊘ ofInt binary64 (pos (n .solved)) ≡ mean) × (n .worst ≡ worst)
+    go (neither z a) = absurd (true≢false cc)
+    go (both nz k) = (nz, cc, cc)

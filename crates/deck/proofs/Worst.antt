@@ -2,17 +2,18 @@
 -- steps; the 0 that the tally begins with is no larger than any, and where it stays, a residual is that 0.
 use mathlib.Core.Path.{_≡_, refl, sym, _∙_, subst}
 use mathlib.Core.Logic.{_⊎_, inl, inr}
-use mathlib.Core.Bool.{Bool, true, false, cond, true≢false}
+use mathlib.Core.Bool.{Bool, true, false, cond}
 use mathlib.Core.List.{List, [], _∷_}
 use Prim.Native.Nat.{ℕ, _≤_}
 use native.Mathlib.Nat.{le-trans, le-of-eq, le-of-lt}
 use native.Mathlib.Omega.{arith}
 use lib.Dec.{T}
 use lib.Ieee.{Float, binary64, lt, le}
-use Rattle.exact.specs.Numbers.{nought, Number, minus, steps}
+use Rattle.exact.specs.Numbers.{nought, steps}
 use Rattle.exact.proofs.Basics.{passed, failed}
 use Rattle.exact.proofs.Steps.{same-number}
 use Rattle.exact.proofs.Order.{plus-le, plus-lt, le-of-not-lt}
+use Rattle.exact.proofs.Signs.{Plus}
 use Rattle.exact.proofs.Zero.{nought-number, nought-steps, nought-plus}
 use Rattle.rows.specs.Rows.{pass}
 use Rattle.card.specs.Fields.{Card}
@@ -22,12 +23,8 @@ use Rattle.card.proofs.Accepted.{residual-plus}
 use Rattle.deck.specs.declared.tally.Running.{Running}
 use Rattle.deck.specs.Tally.{nothing, larger, counted, countedAll, known, residualsOf}
 use Rattle.deck.specs.Check.{verdictsOf, judgedOf}
-use Rattle.deck.proofs.Tallied.{Given, neither, both, given}
+use Rattle.deck.proofs.Tallied.{known-is}
 use Rattle.deck.proofs.Accepted.{accepted-means}
-
--- a number without a minus
-abbrev pub Plus : Float → Type 0
-Plus r = Number binary64 r × (minus r ≡ false)
 
 -- r is the residual of a solved card
 abbrev pub Among : Float → List Said → Type 0
@@ -117,20 +114,13 @@ some-solved n (solved x ∷ verdicts) = inr (x, inl refl)
 some-solved n (refused ∷ verdicts) = some-solved (counted n refused) verdicts
 some-solved n (rejected k ∷ verdicts) = some-solved (counted n (rejected k)) verdicts
 
-known-worst : (n : Running) (mean worst : Float) → residualsOf n ≡ known mean worst → (n .solved ≡ 0 → ⊥) × (n .worst ≡ worst)
-known-worst n mean worst h = go (given n)
-  where
-    go : Given n → (n .solved ≡ 0 → ⊥) × (n .worst ≡ worst)
-    go (neither z a) = absurd (true≢false cc)
-    go (both nz other k) = (nz, cc)
-
 pub worst-of-a-deck : (deck : List ℕ) (room : ℕ) (verdicts : List Said) (mean worst : Float) → judgedOf deck room ≡ pass verdicts → residualsOf (countedAll nothing verdicts) ≡ known mean worst → IsLargest verdicts worst
 worst-of-a-deck deck room verdicts mean worst h k =
     let a = accepted-means deck room verdicts h in
     let n = countedAll nothing verdicts in
-    let w = known-worst n mean worst k in
+    let w = known-is n mean worst k in
     let all : (r : Float) → Among r verdicts → Plus r = λ r m. residuals-plus (a .cards) r (subst (Among r) (a .verdicts-are) m) in
-    subst (IsLargest verdicts) (w .1) (go (w .0) all (some-solved nothing verdicts))
+    subst (IsLargest verdicts) (w .2) (go (w .0) all (some-solved nothing verdicts))
   where
     go : (countedAll nothing verdicts .solved ≡ 0 → ⊥) → ((r : Float) → Among r verdicts → Plus r) → (countedAll nothing verdicts .solved ≡ 0) ⊎ ((r : Float) × Among r verdicts) → IsLargest verdicts (countedAll nothing verdicts .worst)
     go not all (inl none) = absurd (not none)

@@ -16,7 +16,7 @@ use Rattle.exact.proofs.Steps.{steps-lt}
 use Rattle.exact.proofs.Rounding.{rounded, rounded-le, round-steps}
 use Rattle.exact.proofs.Order.{plus-le, plus-lt}
 use Rattle.exact.proofs.Arithmetic.{div-steps}
-use Rattle.exact.proofs.Signs.{magnitude-plus}
+use Rattle.exact.proofs.Signs.{Plus, magnitude-plus}
 use Rattle.exact.proofs.OneStep.{not-to-zero}
 use Rattle.exact.proofs.Zero.{positive-is}
 use Rattle.root.specs.Root.{radicand, sum, Nearest}
@@ -24,10 +24,6 @@ use Rattle.root.proofs.Whole.{square-le}
 use Rattle.root.proofs.Theorems.{definition-holds}
 use Rattle.rows.specs.Rows.{pass, onward}
 use Rattle.entry.specs.Entry.{rooted, sixtyFourth, sixtyFour, eight, farEndOf}
-
--- a finite number that is not minus
-abbrev Plus : Float → Type 0
-Plus x = Number binary64 x × (minus x ≡ false)
 
 -- ---- the closed numbers
 

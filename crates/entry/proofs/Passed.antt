@@ -16,9 +16,9 @@ use Rattle.conic.specs.declared.Vector.{Vector}
 use Rattle.conic.specs.declared.Problem.{Problem}
 use Rattle.conic.specs.declared.Scaled.{Scaled}
 use Rattle.rows.specs.Rows.{Checked, pass, guard, onward}
-use Rattle.conic.specs.Vectors.{dot, allFinite, over, times}
+use Rattle.conic.specs.Vectors.{allFinite, times}
 use Rattle.conic.specs.TimeAndRatio.{timeAt}
-use Rattle.entry.specs.Entry.{straight, inputsTested, radiusOf, unitOf, testedBy, scaledBy, scaledOf, farEndOf, startingBracket, bracketedBy, startOf, entryOf}
+use Rattle.entry.specs.Entry.{straight, inputsTested, dot, over, radiusOf, unitOf, testedBy, scaledBy, scaledOf, farEndOf, startingBracket, bracketedBy, startOf, entryOf}
 use Rattle.rows.proofs.Laws.{pass-once, test-passed, rows-passed}
 use Rattle.conic.proofs.Fitting.{time-fits}
 

@@ -3,7 +3,7 @@
 use mathlib.Core.Bool.{Bool, cond, not, _&&_}
 use lib.Dec.{leb}
 use lib.Ieee.{Float, lt, le, ne, neg}
-use Rattle.exact.specs.Numbers.{_⊖_, _⊗_, _⊘_, numberOf, nought, two, isFinite, magnitude}
+use Rattle.exact.specs.Numbers.{_⊕_, _⊖_, _⊗_, _⊘_, numberOf, nought, two, isFinite, magnitude}
 use Rattle.root.specs.Said as root
 use Rattle.root.specs.Root.{rootOf}
 use Rattle.search.specs.declared.Point.{Point}
@@ -12,7 +12,7 @@ use Rattle.conic.specs.declared.Vector.{Vector}
 use Rattle.conic.specs.declared.Problem.{Problem}
 use Rattle.conic.specs.declared.Scaled.{Scaled}
 use Rattle.rows.specs.Rows.{Checked, pass, refuse, guard, onward}
-use Rattle.conic.specs.Vectors.{dot, allFinite, over, times}
+use Rattle.conic.specs.Vectors.{allFinite, times}
 use Rattle.conic.specs.TimeAndRatio.{timeAt}
 
 -- 1. "an input number is NaN or infinite": none is. The last is the time or the angle.
@@ -37,6 +37,10 @@ fromRoot (root.refused k) = refuse 14
 
 unfoldable pub rooted : Float → Checked Float
 rooted x = fromRoot (rootOf x)
+
+-- "dot adds three products in order"
+abbrev pub dot : Vector → Vector → Float
+dot a b = a .x ⊗ b .x ⊕ a .y ⊗ b .y ⊕ a .z ⊗ b .z
 
 -- r0 = root(r·r). 5. "r·r or r0 is zero or not finite"
 unfoldable pub radiusOf : Vector → Checked Float
@@ -64,6 +68,10 @@ testedBy q o =
     guard (isFinite (o .s) && isFinite q && isFinite (o .alpha) && isFinite (o .p) && isFinite (o .t)) 6
     (guard (not (lt (o .p) straight)) 7
     (pass o))
+
+-- a/k, by component
+abbrev pub over : Vector → Float → Vector
+over a k = record { x = a .x ⊘ k; y = a .y ⊘ k; z = a .z ⊘ k }
 
 -- "u = r/r0 and w = f1*v by component; s = u·w; q = w·w; alpha = 2 - q; p = q - s*s; t = dt/f4". 6. for w, and the tests above
 unfoldable pub scaledBy : (r v : Vector) (dt r0 f1 f4 : Float) → Checked Scaled

@@ -13,9 +13,8 @@ use root::Answer;
 use search::Bracket;
 use search::Point;
 ghost use mathlib.Core.Path.{_≡_};
-ghost use Rattle.conic.specs.Vectors.{dot, over};
 ghost use Rattle.entry.specs.Said.{passedInputs, passedNumber, passedUnit, passedScaled, passedStart};
-ghost use Rattle.entry.specs.Entry.{givenFinite, inputsTested, isUsable, radiusOf, unitOf, testedBy, scaledBy, scaledOf, farEndOf, bracketedBy, startOf, entryOf, angleEntryOf};
+ghost use Rattle.entry.specs.Entry.{givenFinite, inputsTested, isUsable, dot, over, radiusOf, unitOf, testedBy, scaledBy, scaledOf, farEndOf, bracketedBy, startOf, entryOf, angleEntryOf};
 
 // 2^-20: a smaller p is a straight line.
 const STRAIGHT: f64 = 9.5367431640625e-07;

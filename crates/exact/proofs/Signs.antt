@@ -77,8 +77,12 @@ not-below-zero (fin false m e) h = le-ltb (m * up e * 1) (0 * down e) (le-trans 
 pub three-squares : (a b c : Float) → minus (a ⊗ a ⊕ b ⊗ b ⊕ c ⊗ c) ≡ false
 three-squares a b c = add-plus binary64 (a ⊗ a ⊕ b ⊗ b) (c ⊗ c) (add-plus binary64 (a ⊗ a) (b ⊗ b) (mul-plus binary64 a a refl) (mul-plus binary64 b b refl)) (mul-plus binary64 c c refl)
 
--- |x| is a number that is not minus
-pub magnitude-plus : (x : Float) → Number binary64 x → Number binary64 (magnitude x) × (minus (magnitude x) ≡ false)
+-- ---- a finite number that is not minus
+
+abbrev pub Plus : Float → Type 0
+Plus x = Number binary64 x × (minus x ≡ false)
+
+pub magnitude-plus : (x : Float) → Number binary64 x → Plus (magnitude x)
 unfolding magnitude fits
 magnitude-plus nan h = absurd (h .1)
 magnitude-plus (inf s) h = absurd (h .1)

@@ -23,9 +23,8 @@ use Rattle.conic.specs.TimeAndRatio.{timeAt}
 use Rattle.conic.specs.Unfolding.{arrivalAt}
 use Rattle.entry.specs.Entry.{entryOf}
 use Rattle.rows.proofs.Laws.{Refuses, refusal-has}
-use Rattle.conic.proofs.Arrival.{Numbered, arrival-refuses}
+use Rattle.conic.proofs.Arrival.{Numbered, arrival-refuses, Arrives, arrives}
 use Rattle.entry.proofs.Refusals.{entry-refuses}
-use Rattle.conic.proofs.Arrival.{Arrives, arrives}
 use Rattle.entry.proofs.Passed.{entered}
 use Rattle.entry.proofs.Fair.{fair}
 use Rattle.kepler.specs.Kepler.{arrivedAt, outcomeOf, foundIn, afterEntry, keplerOf}
