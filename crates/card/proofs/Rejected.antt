@@ -8,7 +8,7 @@ use lib.Ieee.{Float}
 use Rattle.search.specs.declared.Bracket.{Bracket}
 use Rattle.conic.specs.declared.Scaled.{Scaled}
 use Rattle.rows.specs.Rows.{Checked, pass, refuse}
-use Rattle.rows.proofs.Laws.{Refuses, passes, guard-refuses, onward-refuses, refusal-has}
+use Rattle.rows.proofs.Laws.{Refuses, passes, must-refuses, onward-refuses, refusal-has}
 use Rattle.conic.proofs.Arrival.{Numbered, numbered-is, arrival-refuses}
 use Rattle.entry.proofs.Refusals.{entry-refuses}
 use Rattle.card.specs.declared.Kind.{Kind}
@@ -19,19 +19,19 @@ use Rattle.card.specs.Verdict.{unfoldsTo, atX, solvedCard, refusedCard, 
 
 unfolds-refuses : (body : List ℕ) (o : Scaled) (x residual : Float) → Refuses Numbered (unfoldsTo body o x residual)
 unfolding unfoldsTo
-unfolds-refuses body o x residual = onward-refuses _ _ (arrival-refuses o x) (λ state. guard-refuses _ 22 _ tt passes)
+unfolds-refuses body o x residual = onward-refuses _ _ (arrival-refuses o x) (λ state. must-refuses _ 22 _ tt passes)
 
 at-x-refuses : (body : List ℕ) (o : Scaled) (b : Bracket) → Refuses Numbered (atX body o b)
 unfolding atX
-at-x-refuses body o b = guard-refuses _ 20 _ tt (guard-refuses _ 6 _ tt (guard-refuses _ 21 _ tt (unfolds-refuses body o _ _)))
+at-x-refuses body o b = must-refuses _ 20 _ tt (must-refuses _ 6 _ tt (must-refuses _ 21 _ tt (unfolds-refuses body o _ _)))
 
 solved-refuses : (body : List ℕ) → Refuses Numbered (solvedCard body)
 unfolding solvedCard
-solved-refuses body = guard-refuses _ 23 _ tt (onward-refuses _ _ (entry-refuses (problemOf body)) (λ e. at-x-refuses body (e .0) (e .1)))
+solved-refuses body = must-refuses _ 23 _ tt (onward-refuses _ _ (entry-refuses (problemOf body)) (λ e. at-x-refuses body (e .0) (e .1)))
 
 refused-refuses : (body : List ℕ) → Refuses Numbered (refusedCard body)
 unfolding refusedCard
-refused-refuses body = guard-refuses _ 23 _ tt (guard-refuses _ 24 _ tt passes)
+refused-refuses body = must-refuses _ 23 _ tt (must-refuses _ 24 _ tt passes)
 
 -- a verdict comes from one row of tests alone
 pub as-solved : (c d : Checked Float) → asSolved c ≡ asSolved d → c ≡ d

@@ -16,7 +16,7 @@ use Rattle.search.specs.declared.Bracket.{Bracket}
 use Rattle.search.specs.Search.{within}
 use Rattle.conic.specs.declared.State.{State}
 use Rattle.conic.specs.declared.Scaled.{Scaled}
-use Rattle.rows.specs.Rows.{pass, guard, onward}
+use Rattle.rows.specs.Rows.{pass, must, onward}
 use Rattle.conic.specs.TimeAndRatio.{timeAt}
 use Rattle.conic.specs.Unfolding.{stateAt, arrivalAt}
 use Rattle.entry.specs.Entry.{entryOf}
@@ -49,7 +49,7 @@ residualOf body o = magnitude (timeAt o (xOf body) ⊖ o .t)
 unfolds-is : (body : List ℕ) (o : Scaled) (x residual r : Float) → unfoldsTo body o x residual ≡ pass r → Arrives o x (stateAt o x) × (stateWords body ≡ wordsOf (stateAt o x)) × (r ≡ residual)
 unfolding unfoldsTo
 unfolds-is body o x residual r h =
-    let A = rows-passed (arrivalAt o x) (λ state. guard (sameState body state) 22 (pass residual)) h in
+    let A = rows-passed (arrivalAt o x) (λ state. must (sameState body state) 22 (pass residual)) h in
     let state = A .0 in
     let a = arrives o x state .0 (A .1) in
     let last = test-passed (sameState body state) 22 (pass residual) (A .2) in
@@ -63,8 +63,8 @@ at-x-is body o start r s e h =
     let x = xOf body in
     let time = timeAt o x in
     let rest = unfoldsTo body o x (residualOf body o) in
-    let first = test-passed (isFinite x && within start x) 20 (guard (isFinite time) 6 (guard (isNear time (o .t)) 21 rest)) h in
-    let second = test-passed (isFinite time) 6 (guard (isNear time (o .t)) 21 rest) (first .1) in
+    let first = test-passed (isFinite x && within start x) 20 (must (isFinite time) 6 (must (isNear time (o .t)) 21 rest)) h in
+    let second = test-passed (isFinite time) 6 (must (isNear time (o .t)) 21 rest) (first .1) in
     let third = test-passed (isNear time (o .t)) 21 rest (second .1) in
     let last = unfolds-is body o x (residualOf body o) r (third .1) in (
       record { spare-is = s; entry = e; x-in = is-true (within start x) (both (isFinite x) (within start x) .0 (first .0) .1); time-finite = second .0; near = third .0; arrival = last .0; state-bits = last .1 },
@@ -84,7 +84,7 @@ solved-is body r h =
 
 -- and back
 pub solved-passes : (body : List ℕ) (o : Scaled) (start : Bracket) → Passes body o start → verdictOn kind.Solved body ≡ solved (residualOf body o)
-unfolding verdictOn solvedCard atX unfoldsTo guard onward
+unfolding verdictOn solvedCard atX unfoldsTo must onward
 solved-passes body o start p =
     let x = xOf body in
     let x-good : isFinite x && within start x ≡ true = both (isFinite x) (within start x) .1 (in-start-finite (problemOf body) o start (entered (problemOf body) o start (p .entry)) x (p .x-in), passed (p .x-in)) in
@@ -96,12 +96,12 @@ solved-passes body o start p =
 -- ---- a refused card
 
 pub refused-tests : (body : List ℕ) → (refusedCard body ≡ pass tt) ↔ ((spareOf body ≡ 0) × (lastSpareOf body ≡ 0) × (isRefusedWith (keplerOf (problemOf body)) (refusalOf body) ≡ true))
-unfolding refusedCard guard
+unfolding refusedCard must
 refused-tests body = (there, λ e. rw (both (eqb (spareOf body) 0) (eqb (lastSpareOf body) 0) .1 (eq→eqb (e .0), eq→eqb (e .1)), e .2) refl)
   where
     there : refusedCard body ≡ pass tt → (spareOf body ≡ 0) × (lastSpareOf body ≡ 0) × (isRefusedWith (keplerOf (problemOf body)) (refusalOf body) ≡ true)
     there h =
         let given = isRefusedWith (keplerOf (problemOf body)) (refusalOf body) in
-        let first = test-passed (eqb (spareOf body) 0 && eqb (lastSpareOf body) 0) 23 (guard given 24 (pass tt)) h in
+        let first = test-passed (eqb (spareOf body) 0 && eqb (lastSpareOf body) 0) 23 (must given 24 (pass tt)) h in
         let zeros = both (eqb (spareOf body) 0) (eqb (lastSpareOf body) 0) .0 (first .0) in
         (eqb→eq (spareOf body) 0 (zeros .0), eqb→eq (lastSpareOf body) 0 (zeros .1), test-passed given 24 (pass tt) (first .1) .0)

@@ -11,7 +11,7 @@ use Rattle.search.specs.Search.{within}
 use Rattle.conic.specs.declared.Vector.{Vector}
 use Rattle.conic.specs.declared.State.{State}
 use Rattle.conic.specs.declared.Scaled.{Scaled}
-use Rattle.rows.specs.Rows.{Checked, pass, refuse, guard, onward}
+use Rattle.rows.specs.Rows.{Checked, pass, refuse, must, onward}
 use Rattle.conic.specs.Said as conic
 use Rattle.conic.specs.TimeAndRatio.{timeAt}
 use Rattle.conic.specs.Unfolding.{arrivalAt}
@@ -33,7 +33,7 @@ sameState body state = sameWords body positionAt (state .r) && sameWords body ve
 unfoldable pub unfoldsTo : List ℕ → Scaled → (x residual : Float) → Checked Float
 unfoldsTo body o x residual =
     onward (arrivalAt o x) (λ state.
-    guard (sameState body state) 22
+    must (sameState body state) 22
     (pass residual))
 
 -- "20 x not finite or outside the starting bracket, ends being inside; 6 T(x) not finite; 21 |T - t| > 2^-36"; the residual is |T - t|
@@ -41,16 +41,16 @@ unfoldable pub atX : List ℕ → Scaled → Bracket → Checked Float
 atX body o b =
     let x = xOf body in
     let time = timeAt o x in
-    guard (isFinite x && within b x) 20
-    (guard (isFinite time) 6
-    (guard (isNear time (o .t)) 21
+    must (isFinite x && within b x) 20
+    (must (isFinite time) 6
+    (must (isNear time (o .t)) 21
     (unfoldsTo body o x (magnitude (time ⊖ o .t)))))
 
 -- "Verdict of a solved card, first that holds: 23 spare not 0; the problem's own refusal 1 to 8 or 14, by the tests before the first guess
 -- alone", and the tests above
 unfoldable pub solvedCard : List ℕ → Checked Float
 solvedCard body =
-    guard (eqb (spareOf body) 0) 23
+    must (eqb (spareOf body) 0) 23
     (onward (entryOf (problemOf body)) (λ e.
     atX body (e .0) (e .1)))
 
@@ -63,8 +63,8 @@ isRefusedWith (conic.refusedWithBracket why n lo hi) k = eqb why k
 -- "Refused card: 23; 24 if Kepler doesn't give that number; else 0"
 unfoldable pub refusedCard : List ℕ → Checked (Unit {0})
 refusedCard body =
-    guard (eqb (spareOf body) 0 && eqb (lastSpareOf body) 0) 23
-    (guard (isRefusedWith (keplerOf (problemOf body)) (refusalOf body)) 24
+    must (eqb (spareOf body) 0 && eqb (lastSpareOf body) 0) 23
+    (must (isRefusedWith (keplerOf (problemOf body)) (refusalOf body)) 24
     (pass tt))
 
 -- the verdict that a row of tests comes to

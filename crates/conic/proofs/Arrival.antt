@@ -7,8 +7,8 @@ use Prim.Native.Nat.{ℕ, _<_}
 use lib.Dec.{T, ltb, ltb→lt}
 use lib.Ieee.{Float, le}
 use lib.Ieee.Fits.{and-l, and-r}
-use Rattle.rows.specs.Rows.{pass, guard}
-use Rattle.rows.proofs.Laws.{pass-once, test-passed, Refuses, passes, guard-refuses}
+use Rattle.rows.specs.Rows.{pass, must}
+use Rattle.rows.proofs.Laws.{pass-once, test-passed, Refuses, passes, must-refuses}
 use Rattle.conic.specs.declared.State.{State}
 use Rattle.conic.specs.declared.Scaled.{Scaled}
 use Rattle.conic.specs.Vectors.{allFinite}
@@ -21,13 +21,13 @@ pub record Arrives (o : Scaled) (x : Float) (state : State) : Type 0 where
   pub state-is : stateAt o x ≡ state
 
 pub arrives : (o : Scaled) (x : Float) (state : State) → (arrivalAt o x ≡ pass state) ↔ Arrives o x state
-unfolding guard arrivalOf arrivalAt
+unfolding must arrivalOf arrivalAt
 arrives o x state = (there, λ a. rw (a .allowed, a .state-is, a .finite) refl)
   where
     there : arrivalAt o x ≡ pass state → Arrives o x state
     there h =
         let all-finite = allFinite (stateAt o x .r) && allFinite (stateAt o x .v) in
-        let first = test-passed (le leastRatio (ratioAt o x)) 11 (guard all-finite 6 (pass (stateAt o x))) h in
+        let first = test-passed (le leastRatio (ratioAt o x)) 11 (must all-finite 6 (pass (stateAt o x))) h in
         let second = test-passed all-finite 6 (pass (stateAt o x)) (first .1) in
         let is : stateAt o x ≡ state = pass-once (second .1) in
         record { allowed = first .0; finite = subst (λ (a : State). allFinite (a .r) && allFinite (a .v) ≡ true) is (second .0); state-is = is }
@@ -42,4 +42,4 @@ numbered-is k t = (ltb→lt 0 k (and-l (ltb 0 k) (ltb k 256) t), ltb→lt k 256 
 
 pub arrival-refuses : (o : Scaled) (x : Float) → Refuses Numbered (arrivalAt o x)
 unfolding arrivalOf arrivalAt
-arrival-refuses o x = guard-refuses _ 11 _ tt (guard-refuses _ 6 _ tt passes)
+arrival-refuses o x = must-refuses _ 11 _ tt (must-refuses _ 6 _ tt passes)

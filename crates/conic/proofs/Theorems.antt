@@ -15,7 +15,7 @@ use Rattle.conic.specs.declared.Outcome.the-variants as outcome
 use Rattle.conic.specs.declared.unfolding.Arrival.{Arrival}
 use Rattle.conic.specs.declared.unfolding.Arrival.the-variants as arrival
 use Rattle.rows.specs.Rows.{Checked, pass, refuse}
-use Rattle.conic.specs.Said.{Said, solved, refused, refusedWithBracket, numberOf, said, withState, arrived}
+use Rattle.conic.specs.Said.{Said, solved, refused, refusedWithBracket, reasonNumber, said, withState, arrived}
 use Rattle.conic.specs.Unfolding.{arrivalOf, arrivalAt}
 
 -- ---- a reason by its number: a list from 0 on, where the numbers 0 and 13 are no prediction's
@@ -41,7 +41,7 @@ reasons =
 abbrev reasonOf : ℕ → Reason
 reasonOf k = getD reasons k why.RootRefused
 
-pub reason-is : (r : Reason) → reasonOf (numberOf r) ≡ r
+pub reason-is : (r : Reason) → reasonOf (reasonNumber r) ≡ r
 reason-is why.InputNotFinite = refl
 reason-is why.MuNotPositive = refl
 reason-is why.LimitOutOfRange = refl

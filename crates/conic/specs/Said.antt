@@ -11,20 +11,20 @@ use Rattle.conic.specs.declared.unfolding.Arrival.the-variants as arriva
 use Rattle.rows.specs.Rows.{Checked, pass, refuse}
 
 -- "Refusal numbers"
-abbrev pub numberOf : Reason → ℕ
-numberOf why.InputNotFinite = 1
-numberOf why.MuNotPositive = 2
-numberOf why.LimitOutOfRange = 3
-numberOf why.AngleTooLarge = 4
-numberOf why.NoRadius = 5
-numberOf why.NotFinite = 6
-numberOf why.StraightLine = 7
-numberOf why.BeyondFarEnd = 8
-numberOf why.BracketClosed = 9
-numberOf why.LimitReached = 10
-numberOf why.TooNearCentre = 11
-numberOf why.TowardsInfinity = 12
-numberOf why.RootRefused = 14
+abbrev pub reasonNumber : Reason → ℕ
+reasonNumber why.InputNotFinite = 1
+reasonNumber why.MuNotPositive = 2
+reasonNumber why.LimitOutOfRange = 3
+reasonNumber why.AngleTooLarge = 4
+reasonNumber why.NoRadius = 5
+reasonNumber why.NotFinite = 6
+reasonNumber why.StraightLine = 7
+reasonNumber why.BeyondFarEnd = 8
+reasonNumber why.BracketClosed = 9
+reasonNumber why.LimitReached = 10
+reasonNumber why.TooNearCentre = 11
+reasonNumber why.TowardsInfinity = 12
+reasonNumber why.RootRefused = 14
 
 -- "The outcome is one answer with a case for solved (x, count, state), a case for refused and a case for refused with bracket": a refusal's
 -- number and count, and with 9 and 10 the bracket's two ends
@@ -35,8 +35,8 @@ pub data Said : Type 0 where
 
 abbrev pub said : Outcome → Said
 said (outcome.Solved x n state) = solved x n state
-said (outcome.Refused why n) = refused (numberOf why) n
-said (outcome.RefusedWithBracket why n lo hi) = refusedWithBracket (numberOf why) n lo hi
+said (outcome.Refused why n) = refused (reasonNumber why) n
+said (outcome.RefusedWithBracket why n lo hi) = refusedWithBracket (reasonNumber why) n lo hi
 
 -- a solution, where the state at x is allowed; else its refusal
 abbrev pub withState : Float → ℕ → Checked State → Said
@@ -46,4 +46,4 @@ withState x n (refuse k) = refused k n
 -- an arrival: a state, or the refusal
 abbrev pub arrived : Arrival → Checked State
 arrived (arrival.State state) = pass state
-arrived (arrival.Refused why) = refuse (numberOf why)
+arrived (arrival.Refused why) = refuse (reasonNumber why)

@@ -4,8 +4,8 @@ use lib.Ieee.{Float, le, neg}
 use Rattle.exact.specs.Numbers.{_⊕_, _⊖_, _⊗_, _⊘_, numberOf, one}
 use Rattle.conic.specs.declared.State.{State}
 use Rattle.conic.specs.declared.Scaled.{Scaled}
-use Rattle.rows.specs.Rows.{Checked, pass, guard}
-use Rattle.conic.specs.Vectors.{allFinite, times, combined}
+use Rattle.rows.specs.Rows.{Checked, pass, must}
+use Rattle.conic.specs.Vectors.{allFinite, multiple, combined}
 use Rattle.universal.specs.Functions.{functionsAt}
 use Rattle.conic.specs.TimeAndRatio.{ratioAt}
 
@@ -16,7 +16,7 @@ unfolded o u1 u2 ratio =
     let g = u1 ⊕ o .s ⊗ u2 in
     let ft = (neg u1 ⊘ ratio) ⊘ o .f4 in
     let gt = one ⊖ u2 ⊘ ratio in
-    record { r = combined (o .r) f (times (o .f4) (o .v)) g; v = combined (o .r) ft (o .v) gt }
+    record { r = combined (o .r) f (multiple (o .f4) (o .v)) g; v = combined (o .r) ft (o .v) gt }
 
 -- 2^-10
 abbrev pub leastRatio : Float
@@ -26,8 +26,8 @@ leastRatio = numberOf 0x3f50_0000_0000_0000
 unfoldable pub arrivalOf : Scaled → (u1 u2 ratio : Float) → Checked State
 arrivalOf o u1 u2 ratio =
     let state = unfolded o u1 u2 ratio in
-    guard (le leastRatio ratio) 11
-    (guard (allFinite (state .r) && allFinite (state .v)) 6
+    must (le leastRatio ratio) 11
+    (must (allFinite (state .r) && allFinite (state .v)) 6
     (pass state))
 
 -- the state that x unfolds to

@@ -8,8 +8,8 @@ abbrev pub allFinite : Vector → Bool
 allFinite a = isFinite (a .x) && isFinite (a .y) && isFinite (a .z)
 
 -- k*a; a product of two numbers is the same in either order
-abbrev pub times : Float → Vector → Vector
-times k a = record { x = k ⊗ a .x; y = k ⊗ a .y; z = k ⊗ a .z }
+abbrev pub multiple : Float → Vector → Vector
+multiple k a = record { x = k ⊗ a .x; y = k ⊗ a .y; z = k ⊗ a .z }
 
 -- a*f + b*g
 abbrev pub combined : Vector → Float → Vector → Float → Vector

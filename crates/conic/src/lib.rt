@@ -4,7 +4,7 @@
 // Every public function is proved and total: its contract is an equation with a definition of
 // `specs/`, for every input, NaN and infinities included. The crate assumes nothing.
 ghost use mathlib.Core.Path.{_≡_};
-ghost use Rattle.conic.specs.Said.{numberOf};
+ghost use Rattle.conic.specs.Said.{reasonNumber};
 ghost use Rattle.conic.specs.TimeAndRatio.{timeAt};
 
 pub mod unfolding;
@@ -72,7 +72,7 @@ pub enum Reason {
 impl Reason {
     // The number that document 01 gives it.
     pub fn number(self) -> u32
-        ensures { λ r. ⌜ r ≡ numberOf self ⌝ }
+        ensures { λ r. ⌜ r ≡ reasonNumber self ⌝ }
     {
         match self {
             Reason::InputNotFinite => 1,

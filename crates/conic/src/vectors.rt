@@ -1,7 +1,7 @@
 // Vectors, component by component.
 use crate::Vector;
 ghost use mathlib.Core.Path.{_≡_};
-ghost use Rattle.conic.specs.Vectors.{allFinite, times, combined};
+ghost use Rattle.conic.specs.Vectors.{allFinite, multiple, combined};
 
 // Whether no component is NaN or infinite.
 pub fn all_finite(a: Vector) -> bool
@@ -12,7 +12,7 @@ pub fn all_finite(a: Vector) -> bool
 
 // k*a, where `by` is k.
 pub fn scaled(by: f64, a: Vector) -> Vector
-    ensures { λ r. ⌜ r ≡ times by a ⌝ }
+    ensures { λ r. ⌜ r ≡ multiple by a ⌝ }
 {
     Vector {
         x: by * a.x,

@@ -9,7 +9,7 @@ use borrow.Author.Tests.{leb-true}
 use lib.Dec.{leb}
 use lib.ListN.{length, take, drop, length-append, length-drop, length-map}
 use lib.Seq.{take-at, drop-at}
-use Rattle.rows.specs.Rows.{Checked, pass, refuse, guard, onward}
+use Rattle.rows.specs.Rows.{Checked, pass, refuse, must, onward}
 use Rattle.rows.proofs.Laws.{pass-once, test-passed, rows-passed}
 use Rattle.card.specs.Fields.{Card}
 use Rattle.card.specs.Said.{Said, numberIn}
@@ -35,7 +35,7 @@ pub record Accepted (deck : List ℕ) (room : ℕ) (verdicts : List Said) : Type
 pub accepted-means : (deck : List ℕ) (room : ℕ) (verdicts : List Said) → judgedOf deck room ≡ pass verdicts → Accepted deck room verdicts
 unfolding onward judgedOf
 accepted-means deck room verdicts h =
-    let C = rows-passed (cardsOf deck) (λ cards. guard (leb (countOf deck) room) 39 (pass (verdictsOf cards))) h in
+    let C = rows-passed (cardsOf deck) (λ cards. must (leb (countOf deck) room) 39 (pass (verdictsOf cards))) h in
     let list = test-passed (leb (countOf deck) room) 39 (pass (verdictsOf (C .0))) (C .2) in
     let is : verdictsOf (C .0) ≡ verdicts = pass-once (list .1) in
     let o = opened deck (countOf deck) (rw (C .1) refl) in

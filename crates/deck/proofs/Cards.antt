@@ -6,25 +6,25 @@ use Prim.Native.Nat.{ℕ, zero, suc, _+_, _≤_}
 use borrow.Author.Tests.{leb-true}
 use lib.Dec.{eqb, leb}
 use lib.ListN.{length, take, drop}
-use Rattle.rows.specs.Rows.{Checked, pass, refuse, guard, onward}
+use Rattle.rows.specs.Rows.{Checked, pass, refuse, must, onward}
 use Rattle.rows.proofs.Laws.{pass-once, test-passed, rows-passed}
 use Rattle.card.specs.declared.Kind.{Kind}
 use Rattle.card.specs.Fields.{Card, sizeOf}
-use Rattle.deck.specs.Contents.{kindAt, offsetAt, lengthAt, entryOf, cardsFrom, Passes}
+use Rattle.deck.specs.Contents.{kindAt, offsetAt, lengthAt, entryIn, cardsFrom, Passes}
 
 -- the card of an entry that passed
 abbrev pub cardAt : List ℕ → Kind → (at : ℕ) → Card
 cardAt deck kind at = record { kind = kind; body = take (sizeOf kind) (drop at deck) }
 
 -- an entry that passed has its body inside the deck
-pub entry-inside : (deck : List ℕ) (i at : ℕ) (kind : Kind) → entryOf deck i at ≡ pass kind → at + sizeOf kind ≤ length deck
-unfolding entryOf
+pub entry-inside : (deck : List ℕ) (i at : ℕ) (kind : Kind) → entryIn deck i at ≡ pass kind → at + sizeOf kind ≤ length deck
+unfolding entryIn
 entry-inside deck i at kind h =
-    let K = rows-passed (kindAt deck i) (λ kind. guard (eqb (lengthAt deck i) (sizeOf kind)) 35 (guard (eqb (offsetAt deck i) at) 36 (guard (leb (at + sizeOf kind) (length deck)) 37 (pass kind)))) h in
+    let K = rows-passed (kindAt deck i) (λ kind. must (eqb (lengthAt deck i) (sizeOf kind)) 35 (must (eqb (offsetAt deck i) at) 36 (must (leb (at + sizeOf kind) (length deck)) 37 (pass kind)))) h in
     let k : Kind = K .0 in
     let inside = leb (at + sizeOf k) (length deck) in
-    let length-row = test-passed (eqb (lengthAt deck i) (sizeOf k)) 35 (guard (eqb (offsetAt deck i) at) 36 (guard inside 37 (pass k))) (K .2) in
-    let offset-row = test-passed (eqb (offsetAt deck i) at) 36 (guard inside 37 (pass k)) (length-row .1) in
+    let length-row = test-passed (eqb (lengthAt deck i) (sizeOf k)) 35 (must (eqb (offsetAt deck i) at) 36 (must inside 37 (pass k))) (K .2) in
+    let offset-row = test-passed (eqb (offsetAt deck i) at) 36 (must inside 37 (pass k)) (length-row .1) in
     let end-row = test-passed inside 37 (pass k) (offset-row .1) in
     let is : k ≡ kind = pass-once (end-row .1) in
     rw is at (leb-true (at + sizeOf k) (length deck) (end-row .0))
@@ -34,7 +34,7 @@ module _ (deck : List ℕ) (left i at : ℕ) where
   abbrev pub and-rest : Kind → Checked (List Card)
   and-rest kind = onward (cardsFrom deck left (i + 1) (at + sizeOf kind)) (λ rest. pass (cardAt deck kind at ∷ rest))
 
-  pub cards-are : cardsFrom deck (suc left) i at ≡ onward (entryOf deck i at) and-rest
+  pub cards-are : cardsFrom deck (suc left) i at ≡ onward (entryIn deck i at) and-rest
   unfolding cardsFrom
   cards-are = refl
 
@@ -42,13 +42,13 @@ module _ (deck : List ℕ) (left i at : ℕ) where
   pub record OneMore (cards : List Card) : Type 0 where
     pub kind : Kind
     pub rest : List Card
-    pub entry : entryOf deck i at ≡ pass kind
+    pub entry : entryIn deck i at ≡ pass kind
     pub others : cardsFrom deck left (i + 1) (at + sizeOf kind) ≡ pass rest
     pub cards-is : cards ≡ cardAt deck kind at ∷ rest
 
   pub one-more : (cards : List Card) → cardsFrom deck (suc left) i at ≡ pass cards → OneMore cards
   one-more cards h =
-      let E = rows-passed (entryOf deck i at) and-rest (sym cards-are ∙ h) in
+      let E = rows-passed (entryIn deck i at) and-rest (sym cards-are ∙ h) in
       let R = rows-passed (cardsFrom deck left (i + 1) (at + sizeOf (E .0))) (λ rest. pass (cardAt deck (E .0) at ∷ rest)) (E .2) in
       record { kind = E .0; rest = R .0; entry = E .1; others = R .1; cards-is = sym (pass-once (R .2)) }
 

@@ -17,7 +17,7 @@ use Rattle.card.specs.Fields.{Card, sizeOf}
 use Rattle.card.specs.Said.{Said, numberIn}
 use Rattle.card.specs.Verdict.{verdictOn}
 use Rattle.deck.specs.declared.tally.Running.{Running}
-use Rattle.deck.specs.Contents.{entryAt, entryOf, cardsFrom, Passes}
+use Rattle.deck.specs.Contents.{entryAt, entryIn, cardsFrom, Passes}
 use Rattle.deck.specs.Tally.{nothing, counted, countedAll, residualsOf, totalsOf}
 use Rattle.deck.specs.Check.{verdictsOf, judgedFrom, tallied, written}
 use Rattle.deck.proofs.Tallied.{totalOf, one-counted}
@@ -54,13 +54,13 @@ module _ {deck : List ℕ} {count : ℕ} {before list : List ℕ} {i at : ℕ} {
   next : i < count → cardsFrom deck (suc (count - (i + 1))) i at ≡ pass (g .rest)
   next h = let one-less : count - i ≡ suc (count - (i + 1)) = omega arith in rw one-less at (g .left)
 
-  pub never-refused : (k : ℕ) → i < count → entryOf deck i at ≡ refuse k → ⊥
+  pub never-refused : (k : ℕ) → i < count → entryIn deck i at ≡ refuse k → ⊥
   never-refused k h e =
       let m = one-more deck (count - (i + 1)) i at (g .rest) (next h) in
       let passed : pass (m .kind) ≡ refuse k = sym (m .entry) ∙ e in
       true≢false cc
 
-  go-on : (kind : Kind) → i < count → entryOf deck i at ≡ pass kind → let v = verdictOn kind (cardAt deck kind at .body) in Going deck count before (set list i (numberIn v)) (i + 1) (at + sizeOf kind) (counted n v)
+  go-on : (kind : Kind) → i < count → entryIn deck i at ≡ pass kind → let v = verdictOn kind (cardAt deck kind at .body) in Going deck count before (set list i (numberIn v)) (i + 1) (at + sizeOf kind) (counted n v)
   unfolding countedAll
   go-on kind h e =
       let v = verdictOn kind (cardAt deck kind at .body) in
@@ -81,7 +81,7 @@ module _ {deck : List ℕ} {count : ℕ} {before list : List ℕ} {i at : ℕ} {
       }
 
   -- the same as the code has it: the verdict v on the bytes from `at` to the body's end, written into the lent part of the list
-  pub turn : (kind : Kind) (size : ℕ) (v : Said) (lent : List ℕ) (m : Running) → i < count → i < length list → entryOf deck i at ≡ pass kind → size ≡ sizeOf kind
+  pub turn : (kind : Kind) (size : ℕ) (v : Said) (lent : List ℕ) (m : Running) → i < count → i < length list → entryIn deck i at ≡ pass kind → size ≡ sizeOf kind
       → v ≡ verdictOn kind (take (at + size - at) (drop at deck)) → lent ≡ set (take (length list - i) (drop i list)) 0 (numberIn v) → m ≡ counted n v
       → Going deck count before (putMid i (length list - i) list lent) (i + 1) (at + size) m
   turn kind size v lent m h room e size-is v-is lent-is m-is =

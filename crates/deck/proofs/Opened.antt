@@ -6,7 +6,7 @@ use Prim.Native.Nat.{ℕ, _≤_, _<_}
 use borrow.Author.Tests.{leb-true, le-leb, lt-leb}
 use lib.Dec.{eqb, leb}
 use lib.ListN.{length}
-use Rattle.rows.specs.Rows.{Checked, pass, refuse, guard, onward}
+use Rattle.rows.specs.Rows.{Checked, pass, refuse, must, onward}
 use Rattle.rows.proofs.Laws.{pass-once, test-passed, rows-passed}
 use Rattle.card.specs.Fields.{Card}
 use Rattle.deck.specs.Contents.{entryAt, versionOf, countOf, cardsFrom, cardsOf, counting, Passes}
@@ -39,15 +39,15 @@ pub record Opened (deck : List ℕ) (count : ℕ) : Type 0 where
   pub passes : Passes (cardsFrom deck count 0 (entryAt count))
 
 pub opened : (deck : List ℕ) (count : ℕ) → counting (countOf deck) (cardsOf deck) ≡ pass count → Opened deck count
-unfolding guard cardsOf
+unfolding must cardsOf
 opened deck count h =
     let P = rows-passed (cardsOf deck) (λ cards. pass (countOf deck)) h in
     let is : countOf deck ≡ count = pass-once (P .2) in
     let n = countOf deck in
     let cards = cardsFrom deck n 0 (entryAt n) in
-    let first = test-passed (leb 8 (length deck)) 30 (guard (eqb (versionOf deck) 1) 31 (guard (leb n 256) 32 (guard (leb (entryAt n) (length deck)) 33 cards))) (P .1) in
-    let second = test-passed (eqb (versionOf deck) 1) 31 (guard (leb n 256) 32 (guard (leb (entryAt n) (length deck)) 33 cards)) (first .1) in
-    let third = test-passed (leb n 256) 32 (guard (leb (entryAt n) (length deck)) 33 cards) (second .1) in
+    let first = test-passed (leb 8 (length deck)) 30 (must (eqb (versionOf deck) 1) 31 (must (leb n 256) 32 (must (leb (entryAt n) (length deck)) 33 cards))) (P .1) in
+    let second = test-passed (eqb (versionOf deck) 1) 31 (must (leb n 256) 32 (must (leb (entryAt n) (length deck)) 33 cards)) (first .1) in
+    let third = test-passed (leb n 256) 32 (must (leb (entryAt n) (length deck)) 33 cards) (second .1) in
     let fourth = test-passed (leb (entryAt n) (length deck)) 33 cards (third .1) in
     rw (← is) (record {
       is = refl;
@@ -59,14 +59,14 @@ opened deck count h =
 
 module _ (deck : List ℕ) (count : ℕ) (o : Opened deck count) (list : List ℕ) where
   too-short : length list < count → judgedOf deck (length list) ≡ refuse 39
-  unfolding guard onward judgedOf
+  unfolding must onward judgedOf
   too-short h = rw (o .cards-are, come-to-cards (cardsFrom deck count 0 (entryAt count)) (o .passes) .1, ← o .is, lt-leb count (length list) h) refl
 
   pub list-too-short : length list < count → (refuse 39 ≡ answerOf deck (length list)) × (list ≡ listAfter deck list)
   list-too-short h = judged-refused deck list 39 (too-short h)
 
   room-enough : count ≤ length list → judgedOf deck (length list) ≡ judgedFrom deck count
-  unfolding guard onward judgedOf
+  unfolding must onward judgedOf
   room-enough h = rw (o .cards-are, ← o .is, le-leb count (length list) h) refl
 
   pub accepted : count ≤ length list → (tallied (judgedFrom deck count) ≡ answerOf deck (length list)) × (written (judgedFrom deck count) list ≡ listAfter deck list)

@@ -14,7 +14,7 @@ use Rattle.deck.specs.declared.Residuals.the-variants as residuals
 use Rattle.deck.specs.declared.Answer.{Answer}
 use Rattle.deck.specs.declared.Answer.the-variants as answer
 use Rattle.deck.specs.Tally.{Residuals, absent, known}
-use Rattle.deck.specs.Said.{numberOf, told, said}
+use Rattle.deck.specs.Said.{reasonNumber, told, said}
 use Rattle.deck.specs.Check.{answerOf}
 
 -- a reason by its number, from 30 on
@@ -35,7 +35,7 @@ reasons =
 abbrev reasonOf : ℕ → Reason
 reasonOf k = getD reasons (k - 30) why.TooShort
 
-reason-is : (r : Reason) → reasonOf (numberOf r) ≡ r
+reason-is : (r : Reason) → reasonOf (reasonNumber r) ≡ r
 reason-is why.TooShort = refl
 reason-is why.OtherVersion = refl
 reason-is why.TooManyCards = refl

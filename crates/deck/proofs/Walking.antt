@@ -5,10 +5,10 @@ use Prim.Native.Nat.{ℕ, suc, _+_, _-_, _≤_, _<_}
 use native.Mathlib.Omega.{arith}
 use borrow.Author.Tests.{eq-eqb, ne-eqb}
 use lib.ListN.{length}
-use Rattle.rows.specs.Rows.{Checked, pass, refuse, guard, onward}
+use Rattle.rows.specs.Rows.{Checked, pass, refuse, must, onward}
 use Rattle.card.specs.declared.Kind.{Kind}
 use Rattle.card.specs.Fields.{Card, sizeOf}
-use Rattle.deck.specs.Contents.{entryAt, entryOf, cardsFrom, counting}
+use Rattle.deck.specs.Contents.{entryAt, entryIn, cardsFrom, counting}
 use Rattle.deck.proofs.Cards.{cardAt, entry-inside, and-rest, cards-are}
 
 pub record Walking (deck : List ℕ) (count i at : ℕ) : Type 0 where
@@ -21,12 +21,12 @@ set-out deck count h = let none-yet : count - 0 ≡ count = omega arith in recor
 
 module _ {deck : List ℕ} {count i at : ℕ} (w : Walking deck count i at) where
   -- while an entry is left, the whole comes to that entry and the rest
-  by-entry : i < count → counting count (onward (entryOf deck i at) (and-rest deck (count - (i + 1)) i at)) ≡ counting count (cardsFrom deck count 0 (entryAt count))
+  by-entry : i < count → counting count (onward (entryIn deck i at) (and-rest deck (count - (i + 1)) i at)) ≡ counting count (cardsFrom deck count 0 (entryAt count))
   by-entry h =
       let one-less : suc (count - (i + 1)) ≡ count - i = omega arith in
       ap (counting count) (sym (cards-are deck (count - (i + 1)) i at) ∙ ap (λ (left : ℕ). cardsFrom deck left i at) one-less) ∙ w .same
 
-  pub entry-refused : (k : ℕ) → i < count → entryOf deck i at ≡ refuse k → refuse k ≡ counting count (cardsFrom deck count 0 (entryAt count))
+  pub entry-refused : (k : ℕ) → i < count → entryIn deck i at ≡ refuse k → refuse k ≡ counting count (cardsFrom deck count 0 (entryAt count))
   unfolding onward
   entry-refused k h e = sym (ap (λ m. counting count (onward m (and-rest deck (count - (i + 1)) i at))) e) ∙ by-entry h
 
@@ -36,7 +36,7 @@ module _ {deck : List ℕ} {count i at : ℕ} (w : Walking deck count i at) wher
   behind (pass cards) c = refl
   behind (refuse k) c = refl
 
-  pub walk-on : (kind : Kind) → i < count → entryOf deck i at ≡ pass kind → Walking deck count (i + 1) (at + sizeOf kind)
+  pub walk-on : (kind : Kind) → i < count → entryIn deck i at ≡ pass kind → Walking deck count (i + 1) (at + sizeOf kind)
   unfolding onward
   walk-on kind h e = record {
     few = omega arith;
@@ -49,9 +49,9 @@ module _ {deck : List ℕ} {count i at : ℕ} (w : Walking deck count i at) wher
   at-the-end h = let none-left : count - i ≡ 0 = omega arith in rw none-left at (w .same)
 
   pub left-over : count ≤ i → (at ≡ length deck → ⊥) → refuse 38 ≡ counting count (cardsFrom deck count 0 (entryAt count))
-  unfolding guard onward cardsFrom
+  unfolding must onward cardsFrom
   left-over h e = rw (ne-eqb at (length deck) e) at (at-the-end h)
 
   pub all-read : count ≤ i → at ≡ length deck → pass count ≡ counting count (cardsFrom deck count 0 (entryAt count))
-  unfolding guard onward cardsFrom
+  unfolding must onward cardsFrom
   all-read h e = rw (eq-eqb at (length deck) e) at (at-the-end h)

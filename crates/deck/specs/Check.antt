@@ -3,7 +3,7 @@ use Prim.Native.Nat.{ℕ}
 use mathlib.Core.List.{List, _++_, map}
 use lib.Dec.{leb}
 use lib.ListN.{length, drop}
-use Rattle.rows.specs.Rows.{Checked, pass, refuse, guard, onward}
+use Rattle.rows.specs.Rows.{Checked, pass, refuse, must, onward}
 use Rattle.card.specs.Fields.{Card}
 use Rattle.card.specs.Said.{Said, numberIn}
 use Rattle.card.specs.Verdict.{verdictOn}
@@ -23,7 +23,7 @@ judgedFrom deck count = onward (cardsFrom deck count 0 (entryAt count)) (λ card
 unfoldable pub judgedOf : List ℕ → (room : ℕ) → Checked (List Said)
 judgedOf deck room =
     onward (cardsOf deck) (λ cards.
-    guard (leb (countOf deck) room) 39
+    must (leb (countOf deck) room) 39
     (pass (verdictsOf cards)))
 
 -- the tally of the verdicts, or the refusal

@@ -4,7 +4,7 @@ use mathlib.Core.List.{List, [], _∷_}
 use lib.Dec.{eqb, leb}
 use lib.ListN.{length, take, drop}
 use Rattle.words.specs.Words.{valueAt}
-use Rattle.rows.specs.Rows.{Checked, pass, refuse, guard, onward}
+use Rattle.rows.specs.Rows.{Checked, pass, refuse, must, onward}
 use Rattle.card.specs.declared.Kind.{Kind}
 use Rattle.card.specs.Fields.{Card, kindOf, sizeOf}
 
@@ -29,19 +29,19 @@ abbrev pub lengthAt : List ℕ → (i : ℕ) → ℕ
 lengthAt deck i = valueAt 4 deck (entryAt i + 8)
 
 -- entry i, where the last body ended at `at`: "34 kind, 35 length, 36 offset not where the last body ended, 37 body past the end"
-unfoldable pub entryOf : List ℕ → (i at : ℕ) → Checked Kind
-entryOf deck i at =
+unfoldable pub entryIn : List ℕ → (i at : ℕ) → Checked Kind
+entryIn deck i at =
     onward (kindAt deck i) (λ kind.
-    guard (eqb (lengthAt deck i) (sizeOf kind)) 35
-    (guard (eqb (offsetAt deck i) at) 36
-    (guard (leb (at + sizeOf kind) (length deck)) 37
+    must (eqb (lengthAt deck i) (sizeOf kind)) 35
+    (must (eqb (offsetAt deck i) at) 36
+    (must (leb (at + sizeOf kind) (length deck)) 37
     (pass kind))))
 
 -- the cards from entry i on, `left` of them, with "the bodies, in order, without gaps" from `at` on. "Then 38 bytes left over"
 unfoldable pub cardsFrom : List ℕ → (left i at : ℕ) → Checked (List Card)
-cardsFrom deck zero i at = guard (eqb at (length deck)) 38 (pass [])
+cardsFrom deck zero i at = must (eqb at (length deck)) 38 (pass [])
 cardsFrom deck (suc left) i at =
-    onward (entryOf deck i at) (λ kind.
+    onward (entryIn deck i at) (λ kind.
     onward (cardsFrom deck left (i + 1) (at + sizeOf kind)) (λ rest.
     pass (record { kind = kind; body = take (sizeOf kind) (drop at deck) } ∷ rest)))
 
@@ -49,10 +49,10 @@ cardsFrom deck (suc left) i at =
 unfoldable pub cardsOf : List ℕ → Checked (List Card)
 cardsOf deck =
     let count = countOf deck in
-    guard (leb 8 (length deck)) 30
-    (guard (eqb (versionOf deck) 1) 31
-    (guard (leb count 256) 32
-    (guard (leb (entryAt count) (length deck)) 33
+    must (leb 8 (length deck)) 30
+    (must (eqb (versionOf deck) 1) 31
+    (must (leb count 256) 32
+    (must (leb (entryAt count) (length deck)) 33
     (cardsFrom deck count 0 (entryAt count)))))
 
 -- how many cards that is, or the refusal

@@ -16,17 +16,17 @@ use Rattle.deck.specs.declared.contents.Contents.the-variants as content
 use Rattle.deck.specs.Tally.{Residuals, absent, known}
 
 -- "Refused decks"
-abbrev pub numberOf : Reason → ℕ
-numberOf why.TooShort = 30
-numberOf why.OtherVersion = 31
-numberOf why.TooManyCards = 32
-numberOf why.ContentsPastEnd = 33
-numberOf why.UnknownKind = 34
-numberOf why.WrongLength = 35
-numberOf why.WrongOffset = 36
-numberOf why.BodyPastEnd = 37
-numberOf why.BytesLeftOver = 38
-numberOf why.ListTooShort = 39
+abbrev pub reasonNumber : Reason → ℕ
+reasonNumber why.TooShort = 30
+reasonNumber why.OtherVersion = 31
+reasonNumber why.TooManyCards = 32
+reasonNumber why.ContentsPastEnd = 33
+reasonNumber why.UnknownKind = 34
+reasonNumber why.WrongLength = 35
+reasonNumber why.WrongOffset = 36
+reasonNumber why.BodyPastEnd = 37
+reasonNumber why.BytesLeftOver = 38
+reasonNumber why.ListTooShort = 39
 
 -- mean and worst, or that both are absent
 abbrev pub told : declared.Residuals → Residuals
@@ -36,13 +36,13 @@ told (residuals.Known mean worst) = known mean worst
 -- the three totals with mean and worst, or the number of the refusal
 abbrev pub said : Answer → Checked (Totals × Residuals)
 said (answer.Accepted totals r) = pass (totals, told r)
-said (answer.Refused why) = refuse (numberOf why)
+said (answer.Refused why) = refuse (reasonNumber why)
 
 -- the answers on the way
 abbrev pub entered : Entry → Checked Kind
 entered (entry.Card kind) = pass kind
-entered (entry.Refused why) = refuse (numberOf why)
+entered (entry.Refused why) = refuse (reasonNumber why)
 
 abbrev pub listed : Contents → Checked ℕ
 listed (contents.Cards count) = pass count
-listed (contents.Refused why) = refuse (numberOf why)
+listed (contents.Refused why) = refuse (reasonNumber why)

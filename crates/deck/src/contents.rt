@@ -6,7 +6,7 @@ ghost use mathlib.Core.Path.{_≡_};
 ghost use Prim.Native.Nat.{_≤_};
 ghost use lib.ListN.{length};
 ghost use Rattle.deck.specs.Said.{entered, listed};
-ghost use Rattle.deck.specs.Contents.{entryAt, countOf, entryOf, cardsFrom, cardsOf, counting};
+ghost use Rattle.deck.specs.Contents.{entryAt, countOf, entryIn, cardsFrom, cardsOf, counting};
 
 // The bytes before the first entry, and those of one.
 pub(crate) const HEADER: usize = 8;
@@ -73,7 +73,7 @@ fn entries_tested(deck: &[u8], count: usize) -> Contents
 // Entry i of the contents, where the last body ended at index at.
 pub(crate) fn entry_at(deck: &[u8], i: usize, at: usize) -> Entry
     requires { ⌜ (i ≤ 256) × (at ≤ length (now deck)) ⌝ }
-    ensures { λ r. ⌜ entered r ≡ entryOf (now (deck .entry)) i at ⌝ }
+    ensures { λ r. ⌜ entered r ≡ entryIn (now (deck .entry)) i at ⌝ }
 {
     let place = HEADER + ENTRY * i;
     let Named::Kind(kind) = card::kind_of(words::half(deck, place)) else {

@@ -16,7 +16,7 @@ ghost use Prim.Native.Nat.{_≤_, _<_};
 ghost use lib.ListN.{length, set};
 ghost use Rattle.card.specs.Said as card;
 ghost use Rattle.card.specs.Verdict.{verdictOn};
-ghost use Rattle.deck.specs.Said.{numberOf, said};
+ghost use Rattle.deck.specs.Said.{reasonNumber, said};
 ghost use Rattle.deck.specs.Contents.{kindAt, entryAt, cardsFrom, Passes};
 ghost use Rattle.deck.specs.Check.{judgedFrom, tallied, answerOf, written, listAfter};
 
@@ -40,7 +40,7 @@ pub enum Reason {
 impl Reason {
     // The number that document 01 gives it.
     pub fn number(self) -> u32
-        ensures { λ r. ⌜ r ≡ numberOf self ⌝ }
+        ensures { λ r. ⌜ r ≡ reasonNumber self ⌝ }
     {
         match self {
             Reason::TooShort => 30,

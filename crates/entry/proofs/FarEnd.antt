@@ -10,7 +10,7 @@ use lib.Ieee.{Float, binary64, low, round, lt, le, eq, ofBits}
 use lib.Ieee.Fits.{round-fits}
 use lib.Ieee.Bits.{ofBits-fits}
 use lib.Ieee.Scale.{overflow}
-use Rattle.exact.specs.Numbers.{_⊘_, numberOf, nought, Number, magnitude, minus, steps}
+use Rattle.exact.specs.Numbers.{_⊘_, numberOf, nought, Number, magnitude, isMinus, steps}
 use Rattle.exact.proofs.Basics.{failed, not-below}
 use Rattle.exact.proofs.Steps.{steps-lt}
 use Rattle.exact.proofs.Rounding.{rounded, rounded-le, round-steps}
@@ -19,7 +19,7 @@ use Rattle.exact.proofs.Arithmetic.{div-steps}
 use Rattle.exact.proofs.Signs.{Plus, magnitude-plus}
 use Rattle.exact.proofs.OneStep.{not-to-zero}
 use Rattle.exact.proofs.Zero.{positive-is}
-use Rattle.root.specs.Root.{radicand, sum, Nearest}
+use Rattle.root.specs.Root.{radicand, sumInSteps, Nearest}
 use Rattle.root.proofs.Whole.{square-le}
 use Rattle.root.proofs.Theorems.{definition-holds}
 use Rattle.rows.specs.Rows.{pass, onward}
@@ -71,10 +71,10 @@ too-low e s m l r q h k =
     lt-of-mul-lt-mul-right l (omega arith)
 
 root-least : (x r : Float) → steps binary64 sixtyFourth < steps binary64 x → Nearest x r → Plus r × (steps binary64 eighth ≤ steps binary64 r)
-unfolding radicand sum
+unfolding radicand sumInSteps
 root-least x r above n = ((n .number, plus), not-below (λ l. not-le-of-lt (under l) (le-of-lt above)))
   where
-    plus : minus r ≡ false
+    plus : isMinus r ≡ false
     plus = positive-is r (n .number) .0 (n .positive) .0
 
     under : steps binary64 r < steps binary64 eighth → steps binary64 x < steps binary64 sixtyFourth
@@ -86,7 +86,7 @@ root-least x r above n = ((n .number, plus), not-below (λ l. not-le-of-lt (unde
 
 pub record IsFarEnd (x : Float) : Type 0 where
   pub number : Number binary64 x
-  pub plus : minus x ≡ false
+  pub plus : isMinus x ≡ false
   pub positive : T (lt nought x)
   pub most : T (le x sixtyFour)
 

@@ -15,8 +15,8 @@ use Rattle.search.proofs.Hunt.{pointAt}
 use Rattle.conic.specs.declared.Vector.{Vector}
 use Rattle.conic.specs.declared.Problem.{Problem}
 use Rattle.conic.specs.declared.Scaled.{Scaled}
-use Rattle.rows.specs.Rows.{Checked, pass, guard, onward}
-use Rattle.conic.specs.Vectors.{allFinite, times}
+use Rattle.rows.specs.Rows.{Checked, pass, must, onward}
+use Rattle.conic.specs.Vectors.{allFinite, multiple}
 use Rattle.conic.specs.TimeAndRatio.{timeAt}
 use Rattle.entry.specs.Entry.{straight, inputsTested, dot, over, radiusOf, unitOf, testedBy, scaledBy, scaledOf, farEndOf, startingBracket, bracketedBy, startOf, entryOf}
 use Rattle.rows.proofs.Laws.{pass-once, test-passed, rows-passed}
@@ -47,7 +47,7 @@ unfolding testedBy
 tested-is q o e h f =
     let finite = isFinite (o .s) && isFinite q && isFinite (o .alpha) && isFinite (o .p) && isFinite (o .t) in
     let no-line = not (lt (o .p) straight) in
-    let first = test-passed finite 6 (guard no-line 7 (pass o)) h in
+    let first = test-passed finite 6 (must no-line 7 (pass o)) h in
     let each = five (isFinite (o .s)) (isFinite q) (isFinite (o .alpha)) (isFinite (o .p)) (isFinite (o .t)) (first .0) in
     (pass-once (test-passed no-line 7 (pass o) (first .1) .1), record { s-number = (f .0, each .0); alpha-number = (f .1, each .2); p-number = (f .2, each .3); t-number = (f .3, each .4) })
 
@@ -59,7 +59,7 @@ scaled-is mu r v dt e h =
     let F = rows-passed (unitOf mu r0) (λ f. scaledBy r v dt r0 (f .0) (f .1)) (R .2) in
     let f1 = F .0 .0 in
     let f4 = F .0 .1 in
-    let w = times f1 v in
+    let w = multiple f1 v in
     let s = dot (over r r0) w in
     let q = dot w w in
     let o : Scaled = record { s = s; alpha = two ⊖ q; p = q ⊖ s ⊗ s; t = dt ⊘ f4; f4 = f4; r0 = r0; r = r; v = v } in
@@ -94,7 +94,7 @@ unfolding bracketedBy
 bracketed-is o far e h =
     let short = cond (le nought (o .t)) (lt (timeAt o far) (o .t)) (lt (o .t) (timeAt o far)) in
     let answer : Checked (Scaled × Bracket) = pass (o, startingBracket (o .t) (pointAt (timeAt o) far)) in
-    let first = test-passed (isFinite (timeAt o far)) 6 (guard (not short) 8 answer) h in
+    let first = test-passed (isFinite (timeAt o far)) 6 (must (not short) 8 answer) h in
     let second = test-passed (not short) 8 answer (first .1) in
     (record { finite = first .0; reaches = not-true short (second .0) }, sym (pass-once (second .1)))
 
@@ -103,7 +103,7 @@ unfolding startOf entryOf
 entered p o b h =
     let in-range = leb 1 (p .limit) && leb (p .limit) 100 in
     let row = onward (scaledOf (p .mu) (p .r) (p .v) (p .dt)) startOf in
-    let inputs = rows-passed (inputsTested (p .mu) (p .r) (p .v) (p .dt)) (λ good. guard in-range 3 row) h in
+    let inputs = rows-passed (inputsTested (p .mu) (p .r) (p .v) (p .dt)) (λ good. must in-range 3 row) h in
     let third = test-passed in-range 3 row (inputs .2) in
     let range = both (leb 1 (p .limit)) (leb (p .limit) 100) .0 (third .0) in
     let S = rows-passed (scaledOf (p .mu) (p .r) (p .v) (p .dt)) startOf (third .1) in

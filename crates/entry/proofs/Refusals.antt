@@ -1,5 +1,5 @@
 -- Every number with which an entry refuses is not 0, and one byte holds it (`Numbered`). Each number stands beside its test, so the laws of
--- rows (`guard-refuses`, `onward-refuses`) follow the definitions line by line.
+-- rows (`must-refuses`, `onward-refuses`) follow the definitions line by line.
 use lib.Ieee.{Float, le}
 use Rattle.exact.specs.Numbers.{magnitude}
 use Rattle.root.specs.Said as root
@@ -9,7 +9,7 @@ use Rattle.conic.specs.declared.Problem.{Problem}
 use Rattle.conic.specs.declared.Scaled.{Scaled}
 use Rattle.entry.specs.Entry.{inputsTested, fromRoot, rooted, radiusOf, unitOf, testedBy, scaledBy, scaledOf, sixtyFourth, farEndOf, bracketedBy, startOf, entryOf}
 use Rattle.conic.proofs.Arrival.{Numbered}
-use Rattle.rows.proofs.Laws.{Refuses, passes, refuses, guard-refuses, cond-refuses, onward-refuses}
+use Rattle.rows.proofs.Laws.{Refuses, passes, refuses, must-refuses, cond-refuses, onward-refuses}
 
 from-root : (a : root.Said) → Refuses Numbered (fromRoot a)
 from-root (root.root x) = passes
@@ -21,23 +21,23 @@ root-refuses x = from-root (rootOf x)
 
 inputs-refuse : (mu : Float) (r v : Vector) (last : Float) → Refuses Numbered (inputsTested mu r v last)
 unfolding inputsTested
-inputs-refuse mu r v last = guard-refuses _ 1 _ tt (guard-refuses _ 2 _ tt passes)
+inputs-refuse mu r v last = must-refuses _ 1 _ tt (must-refuses _ 2 _ tt passes)
 
 radius-refuses : (r : Vector) → Refuses Numbered (radiusOf r)
 unfolding radiusOf
-radius-refuses r = guard-refuses _ 5 _ tt (onward-refuses _ _ (root-refuses _) (λ r0. guard-refuses _ 5 _ tt passes))
+radius-refuses r = must-refuses _ 5 _ tt (onward-refuses _ _ (root-refuses _) (λ r0. must-refuses _ 5 _ tt passes))
 
 unit-refuses : (mu r0 : Float) → Refuses Numbered (unitOf mu r0)
 unfolding unitOf
-unit-refuses mu r0 = guard-refuses _ 6 _ tt (onward-refuses _ _ (root-refuses _) (λ f1. guard-refuses _ 6 _ tt passes))
+unit-refuses mu r0 = must-refuses _ 6 _ tt (onward-refuses _ _ (root-refuses _) (λ f1. must-refuses _ 6 _ tt passes))
 
 tested-refuses : (q : Float) (o : Scaled) → Refuses Numbered (testedBy q o)
 unfolding testedBy
-tested-refuses q o = guard-refuses _ 6 _ tt (guard-refuses _ 7 _ tt passes)
+tested-refuses q o = must-refuses _ 6 _ tt (must-refuses _ 7 _ tt passes)
 
 scaling-refuses : (r v : Vector) (dt r0 f1 f4 : Float) → Refuses Numbered (scaledBy r v dt r0 f1 f4)
 unfolding scaledBy
-scaling-refuses r v dt r0 f1 f4 = guard-refuses _ 6 _ tt (tested-refuses _ _)
+scaling-refuses r v dt r0 f1 f4 = must-refuses _ 6 _ tt (tested-refuses _ _)
 
 scaled-refuses : (mu : Float) (r v : Vector) (dt : Float) → Refuses Numbered (scaledOf mu r v dt)
 unfolding scaledOf
@@ -49,7 +49,7 @@ far-end-refuses alpha = cond-refuses (le (magnitude alpha) sixtyFourth) _ _ pass
 
 bracket-refuses : (o : Scaled) (far : Float) → Refuses Numbered (bracketedBy o far)
 unfolding bracketedBy
-bracket-refuses o far = guard-refuses _ 6 _ tt (guard-refuses _ 8 _ tt passes)
+bracket-refuses o far = must-refuses _ 6 _ tt (must-refuses _ 8 _ tt passes)
 
 start-refuses : (o : Scaled) → Refuses Numbered (startOf o)
 unfolding startOf
@@ -59,4 +59,4 @@ pub entry-refuses : (p : Problem) → Refuses Numbered (entryOf p)
 unfolding entryOf
 entry-refuses p =
     onward-refuses _ _ (inputs-refuse (p .mu) (p .r) (p .v) (p .dt))
-    (λ good. guard-refuses _ 3 _ tt (onward-refuses _ _ (scaled-refuses (p .mu) (p .r) (p .v) (p .dt)) start-refuses))
+    (λ good. must-refuses _ 3 _ tt (onward-refuses _ _ (scaled-refuses (p .mu) (p .r) (p .v) (p .dt)) start-refuses))

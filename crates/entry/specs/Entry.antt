@@ -11,8 +11,8 @@ use Rattle.search.specs.declared.Bracket.{Bracket}
 use Rattle.conic.specs.declared.Vector.{Vector}
 use Rattle.conic.specs.declared.Problem.{Problem}
 use Rattle.conic.specs.declared.Scaled.{Scaled}
-use Rattle.rows.specs.Rows.{Checked, pass, refuse, guard, onward}
-use Rattle.conic.specs.Vectors.{allFinite, times}
+use Rattle.rows.specs.Rows.{Checked, pass, refuse, must, onward}
+use Rattle.conic.specs.Vectors.{allFinite, multiple}
 use Rattle.conic.specs.TimeAndRatio.{timeAt}
 
 -- 1. "an input number is NaN or infinite": none is. The last is the time or the angle.
@@ -22,8 +22,8 @@ givenFinite mu r v last = isFinite mu && allFinite r && allFinite v && isFinite 
 -- 1, then 2. "mu ≤ 0": the tests that Kepler and Theta begin with
 unfoldable pub inputsTested : (mu : Float) (r v : Vector) (last : Float) → Checked (Unit {0})
 inputsTested mu r v last =
-    guard (givenFinite mu r v last) 1
-    (guard (lt nought mu) 2
+    must (givenFinite mu r v last) 1
+    (must (lt nought mu) 2
     (pass tt))
 
 -- not "zero or not finite"
@@ -45,17 +45,17 @@ dot a b = a .x ⊗ b .x ⊕ a .y ⊗ b .y ⊕ a .z ⊗ b .z
 -- r0 = root(r·r). 5. "r·r or r0 is zero or not finite"
 unfoldable pub radiusOf : Vector → Checked Float
 radiusOf r =
-    guard (isUsable (dot r r)) 5
+    must (isUsable (dot r r)) 5
     (onward (rooted (dot r r)) (λ r0.
-    guard (isUsable r0) 5
+    must (isUsable r0) 5
     (pass r0)))
 
 -- f1 = root(r0/mu); f4 = r0*f1. 6. "r0/mu (tested before its root), f1 or f4 is zero or not finite"
 unfoldable pub unitOf : (mu r0 : Float) → Checked (Float × Float)
 unitOf mu r0 =
-    guard (isUsable (r0 ⊘ mu)) 6
+    must (isUsable (r0 ⊘ mu)) 6
     (onward (rooted (r0 ⊘ mu)) (λ f1.
-    guard (isUsable f1 && isUsable (r0 ⊗ f1)) 6
+    must (isUsable f1 && isUsable (r0 ⊗ f1)) 6
     (pass (f1, r0 ⊗ f1))))
 
 -- 2^-20
@@ -65,8 +65,8 @@ straight = numberOf 0x3eb0_0000_0000_0000
 -- 6. "w, s, q, alpha, p, t not finite", from s on. 7. "p < 2^-20 (straight line)"
 unfoldable pub testedBy : (q : Float) → Scaled → Checked Scaled
 testedBy q o =
-    guard (isFinite (o .s) && isFinite q && isFinite (o .alpha) && isFinite (o .p) && isFinite (o .t)) 6
-    (guard (not (lt (o .p) straight)) 7
+    must (isFinite (o .s) && isFinite q && isFinite (o .alpha) && isFinite (o .p) && isFinite (o .t)) 6
+    (must (not (lt (o .p) straight)) 7
     (pass o))
 
 -- a/k, by component
@@ -77,13 +77,13 @@ over a k = record { x = a .x ⊘ k; y = a .y ⊘ k; z = a .z ⊘ k }
 unfoldable pub scaledBy : (r v : Vector) (dt r0 f1 f4 : Float) → Checked Scaled
 scaledBy r v dt r0 f1 f4 =
     let u = over r r0 in
-    let w = times f1 v in
+    let w = multiple f1 v in
     let s = dot u w in
     let q = dot w w in
     let alpha = two ⊖ q in
     let p = q ⊖ s ⊗ s in
     let t = dt ⊘ f4 in
-    guard (allFinite w) 6
+    must (allFinite w) 6
     (testedBy q (record { s = s; alpha = alpha; p = p; t = t; f4 = f4; r0 = r0; r = r; v = v }))
 
 -- the scaled problem
@@ -115,8 +115,8 @@ unfoldable pub bracketedBy : Scaled → (far : Float) → Checked (Scaled × Bra
 bracketedBy o far =
     let t = o .t in
     let time = timeAt o far in
-    guard (isFinite time) 6
-    (guard (not (cond (le nought t) (lt time t) (lt t time))) 8
+    must (isFinite time) 6
+    (must (not (cond (le nought t) (lt time t) (lt t time))) 8
     (pass (o, startingBracket t (record { x = far; time = time }))))
 
 unfoldable pub startOf : Scaled → Checked (Scaled × Bracket)
@@ -126,7 +126,7 @@ startOf o = onward (farEndOf (o .alpha)) (λ x. bracketedBy o (cond (le nought (
 unfoldable pub entryOf : Problem → Checked (Scaled × Bracket)
 entryOf p =
     onward (inputsTested (p .mu) (p .r) (p .v) (p .dt)) (λ good.
-    guard (leb 1 (p .limit) && leb (p .limit) 100) 3
+    must (leb 1 (p .limit) && leb (p .limit) 100) 3
     (onward (scaledOf (p .mu) (p .r) (p .v) (p .dt)) startOf))
 
 abbrev pub largestAngle : Float
@@ -136,5 +136,5 @@ largestAngle = numberOf 0x4019_0000_0000_0000
 unfoldable pub angleEntryOf : (mu : Float) (r v : Vector) (a : Float) → Checked Scaled
 angleEntryOf mu r v a =
     onward (inputsTested mu r v a) (λ good.
-    guard (le (magnitude a) largestAngle) 4
+    must (le (magnitude a) largestAngle) 4
     (scaledOf mu r v nought))

@@ -3,7 +3,7 @@ use lib.Ieee.{Float}
 use Rattle.search.specs.declared.Bracket.{Bracket}
 use Rattle.rows.specs.Rows.{Checked, pass, refuse}
 use Rattle.conic.specs.declared.Scaled.{Scaled}
-use Rattle.conic.specs.Said.{numberOf}
+use Rattle.conic.specs.Said.{reasonNumber}
 use Rattle.entry.specs.declared.Number.{Number}
 use Rattle.entry.specs.declared.Number.the-variants as number
 use Rattle.entry.specs.declared.TimeUnit.{TimeUnit}
@@ -17,20 +17,20 @@ use Rattle.entry.specs.declared.Start.the-variants as start
 
 abbrev pub passedInputs : Inputs → Checked (Unit {0})
 passedInputs inputs.Passed = pass tt
-passedInputs (inputs.Refused why) = refuse (numberOf why)
+passedInputs (inputs.Refused why) = refuse (reasonNumber why)
 
 abbrev pub passedNumber : Number → Checked Float
 passedNumber (number.Passed x) = pass x
-passedNumber (number.Refused why) = refuse (numberOf why)
+passedNumber (number.Refused why) = refuse (reasonNumber why)
 
 abbrev pub passedUnit : TimeUnit → Checked (Float × Float)
 passedUnit (unit.Passed f1 f4) = pass (f1, f4)
-passedUnit (unit.Refused why) = refuse (numberOf why)
+passedUnit (unit.Refused why) = refuse (reasonNumber why)
 
 abbrev pub passedScaled : Scaling → Checked Scaled
 passedScaled (scaling.Passed o) = pass o
-passedScaled (scaling.Refused why) = refuse (numberOf why)
+passedScaled (scaling.Refused why) = refuse (reasonNumber why)
 
 abbrev pub passedStart : Start → Checked (Scaled × Bracket)
 passedStart (start.Passed o b) = pass (o, b)
-passedStart (start.Refused why) = refuse (numberOf why)
+passedStart (start.Refused why) = refuse (reasonNumber why)

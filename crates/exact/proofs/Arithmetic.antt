@@ -11,7 +11,7 @@ use lib.Ieee.{Float, nan, inf, fin, Format, low, up, down, unlike, round, neg, s
 use lib.Ieee.Fits.{neg-fits}
 use lib.Ieee.Positive.{first-pos}
 use lib.Ieee.Scale.{round-same}
-use Rattle.exact.specs.Numbers.{Number, minus, magnitude, steps, distance, gap}
+use Rattle.exact.specs.Numbers.{Number, isMinus, magnitude, steps, distance, gap}
 use Rattle.exact.proofs.Rounding.{round-magnitude}
 use Rattle.exact.proofs.Fractions.{scaled-ltb, sums, differences, left, right, denominators-pos}
 
@@ -40,7 +40,7 @@ sum-same f s t A B C a b c P p x y =
     (round-same f t (B - A) C (b - a) c P p (differences c C p P B A b a y x))
     (ap (λ (u : Bool). round f (s && u) (A - B) C) (scaled-ltb c C p P B A b a y x) ∙ round-same f (s && ltb b a) (A - B) C (a - b) c P p (differences c C p P A B a b x y)))
 
-pub add-steps : (f : Format) (x y : Float) → Number f x → Number f y → add f x y ≡ sum f (minus x) (steps f x) (minus y) (steps f y) (2 ^ low f)
+pub add-steps : (f : Format) (x y : Float) → Number f x → Number f y → add f x y ≡ sum f (isMinus x) (steps f x) (isMinus y) (steps f y) (2 ^ low f)
 unfolding add
 add-steps f nan y h k = absurd (h .1)
 add-steps f (inf s) y h k = absurd (h .1)
@@ -52,17 +52,17 @@ add-steps f (fin s m e) (fin t n d) h k =
 
 -- ---- the difference
 
-pub neg-number : (f : Format) (x : Float) → Number f x → Number f (neg x) × (minus (neg x) ≡ not (minus x)) × (steps f (neg x) ≡ steps f x)
+pub neg-number : (f : Format) (x : Float) → Number f x → Number f (neg x) × (isMinus (neg x) ≡ not (isMinus x)) × (steps f (neg x) ≡ steps f x)
 unfolding neg steps
 neg-number f nan h = absurd (h .1)
 neg-number f (inf s) h = absurd (h .1)
 neg-number f (fin s m e) h = ((neg-fits f (fin s m e) (h .0), tt), refl, refl)
 
-pub sub-steps : (f : Format) (x y : Float) → Number f x → Number f y → sub f x y ≡ sum f (minus x) (steps f x) (not (minus y)) (steps f y) (2 ^ low f)
+pub sub-steps : (f : Format) (x y : Float) → Number f x → Number f y → sub f x y ≡ sum f (isMinus x) (steps f x) (not (isMinus y)) (steps f y) (2 ^ low f)
 unfolding sub
 sub-steps f x y h k =
     let n = neg-number f y k in
-    add-steps f x (neg y) h (n .0) ∙ ap₂ (λ (t : Bool) (b : ℕ). sum f (minus x) (steps f x) t b (2 ^ low f)) (n .1) (n .2)
+    add-steps f x (neg y) h (n .0) ∙ ap₂ (λ (t : Bool) (b : ℕ). sum f (isMinus x) (steps f x) t b (2 ^ low f)) (n .1) (n .2)
 
 -- without its sign, the sum of ±a and ±b is one rounding of what they come to
 sum-magnitude : (f : Format) (s t : Bool) (a b c : ℕ) → magnitude (sum f s a t b c) ≡ round f false (cond (Bool·beq s t) (a + b) (distance a b)) c
@@ -88,8 +88,8 @@ pub sub-magnitude : (f : Format) (x y : Float) → Number f x → Number f y →
 unfolding gap
 sub-magnitude f x y h k =
     ap magnitude (sub-steps f x y h k)
-    ∙ sum-magnitude f (minus x) (not (minus y)) (steps f x) (steps f y) (2 ^ low f)
-    ∙ ap (λ (z : ℕ). round f false z (2 ^ low f)) (turned (minus x) (minus y) (distance (steps f x) (steps f y)) (steps f x + steps f y))
+    ∙ sum-magnitude f (isMinus x) (not (isMinus y)) (steps f x) (steps f y) (2 ^ low f)
+    ∙ ap (λ (z : ℕ). round f false z (2 ^ low f)) (turned (isMinus x) (isMinus y) (distance (steps f x) (steps f y)) (steps f x + steps f y))
   where
     turned : (s t : Bool) (a b : ℕ) → cond (Bool·beq s (not t)) b a ≡ cond (Bool·beq s t) a b
     turned false false a b = refl
@@ -99,7 +99,7 @@ sub-magnitude f x y h k =
 
 -- ---- the quotient
 
-pub div-steps : (f : Format) (x y : Float) → Number f x → Number f y → 0 < steps f y → div f x y ≡ round f (unlike (minus x) (minus y)) (steps f x) (steps f y)
+pub div-steps : (f : Format) (x y : Float) → Number f x → Number f y → 0 < steps f y → div f x y ≡ round f (unlike (isMinus x) (isMinus y)) (steps f x) (steps f y)
 unfolding div
 div-steps f nan y h k p = absurd (h .1)
 div-steps f (inf s) y h k p = absurd (h .1)

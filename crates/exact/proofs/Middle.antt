@@ -11,7 +11,7 @@ use lib.Ieee.{Float, nan, inf, fin, binary64, low, round, neg, sub, le, ofBits}
 use lib.Ieee.Fits.{round-fits}
 use lib.Ieee.Bits.{ofBits-fits}
 use lib.Ieee.Scale.{overflow}
-use Rattle.exact.specs.Numbers.{nought, Number, two, middle, minus, steps, _⊕_, _⊖_, _⊘_}
+use Rattle.exact.specs.Numbers.{nought, Number, two, middle, isMinus, steps, _⊕_, _⊖_, _⊘_}
 use Rattle.exact.proofs.Steps.{steps-lt}
 use Rattle.exact.proofs.Rounding.{rounded, rounded-le, round-steps}
 use Rattle.exact.proofs.Order.{along, place, le-place, plus-le}
@@ -24,7 +24,7 @@ two-number : Number binary64 two
 unfolding ofBits
 two-number = (ofBits-fits binary64 0x4000_0000_0000_0000, tt)
 
-two-plus : minus two ≡ false
+two-plus : isMinus two ≡ false
 unfolding ofBits
 two-plus = refl
 
@@ -35,10 +35,10 @@ two-steps = lit< tt
 -- y is not minus, and no more than x
 record Within (x y : Float) : Type 0 where
   number : Number binary64 y
-  plus : minus y ≡ false
+  plus : isMinus y ≡ false
   most : steps binary64 y ≤ steps binary64 x
 
-half-within : (x : Float) → Number binary64 x → minus x ≡ false → Within x (x ⊘ two)
+half-within : (x : Float) → Number binary64 x → isMinus x ≡ false → Within x (x ⊘ two)
 half-within x h plus =
     let d = steps binary64 two in
     let D : 0 < d = lt-of-le-of-lt zero-le two-steps in
@@ -49,7 +49,7 @@ half-within x h plus =
 
 -- ---- forwards
 
-pub middle-forwards : (x : Float) → Number binary64 x → minus x ≡ false → T (le nought (middle nought x)) × T (le (middle nought x) x)
+pub middle-forwards : (x : Float) → Number binary64 x → isMinus x ≡ false → T (le nought (middle nought x)) × T (le (middle nought x) x)
 middle-forwards x h plus =
     let w = half-within x h plus in
     let is : middle nought x ≡ x ⊘ two = ap (λ (z : Float). nought ⊕ z ⊘ two) (less-zero x h plus) ∙ zero-plus (x ⊘ two) (w .number) (w .plus) in
@@ -65,7 +65,7 @@ neg-neg (inf false) = refl
 neg-neg (fin true m e) = refl
 neg-neg (fin false m e) = refl
 
-zero-less-neg : (x : Float) → Number binary64 x → minus x ≡ false → nought ⊖ neg x ≡ x
+zero-less-neg : (x : Float) → Number binary64 x → isMinus x ≡ false → nought ⊖ neg x ≡ x
 unfolding sub
 zero-less-neg x h plus = ap (λ (z : Float). nought ⊕ z) (neg-neg x) ∙ zero-plus x h plus
 
@@ -75,7 +75,7 @@ between o a r true l n = (omega arith, omega arith)
 between o a r false l n = let z = n tt in (omega arith, omega arith)
 
 -- -x and a part y of x: what is left of x, minus unless nothing is left
-module _ (x y : Float) (h : Number binary64 x) (plus : minus x ≡ false) (w : Within x y) where
+module _ (x y : Float) (h : Number binary64 x) (plus : isMinus x ≡ false) (w : Within x y) where
   rest : ℕ
   rest = steps binary64 x - steps binary64 y
 
@@ -115,5 +115,5 @@ module _ (x y : Float) (h : Number binary64 x) (plus : minus x ≡ false) (w : W
       let b = between (overflow binary64) (steps binary64 x) (rounded binary64 rest unit) under (at-most x h (sub-le (steps binary64 x) (steps binary64 y))) gone in
       rw left-over (le-place binary64 (neg x) m (n .0) number .1 (rw (n .1, n .2, v .0, v .1, plus) (b .0)), le-place binary64 m nought number nought-number .1 (rw (v .0, v .1, nought-plus, nought-steps) (b .1)))
 
-pub middle-backwards : (x : Float) → Number binary64 x → minus x ≡ false → T (le (neg x) (middle (neg x) nought)) × T (le (middle (neg x) nought) nought)
+pub middle-backwards : (x : Float) → Number binary64 x → isMinus x ≡ false → T (le (neg x) (middle (neg x) nought)) × T (le (middle (neg x) nought) nought)
 middle-backwards x h plus = rw (zero-less-neg x h plus) (left-between x (x ⊘ two) h plus (half-within x h plus))

@@ -13,7 +13,7 @@ use lib.Ieee.{Float, nan, inf, fin, Format, low, up, down, below, level, round, 
 use lib.Ieee.Fits.{eq→eqb, and-i, and-l, and-r, round-fits}
 use lib.Ieee.Order.{round-mono}
 use lib.Ieee.Scale.{overflow}
-use Rattle.exact.specs.Numbers.{isFinite, Number, minus, steps, distance, gap}
+use Rattle.exact.specs.Numbers.{isFinite, Number, isMinus, steps, distance, gap}
 use Rattle.exact.proofs.Basics.{or-split, or-l, or-r, not-below}
 use Rattle.exact.proofs.Steps.{steps-lt}
 use Rattle.exact.proofs.Rounding.{rounded, round-steps, round-finite, round-minus}
@@ -25,7 +25,7 @@ use Rattle.exact.proofs.Fractions.{scaled-below, scaled-level, left, ri
 module _ (compared : Float → Float → Bool) (test : Bool → ℕ → Bool → ℕ → Bool)
     (over-one : (s : Bool) (m : ℕ) (e : ℤ) (t : Bool) (n : ℕ) (d : ℤ) → compared (fin s m e) (fin t n d) ≡ test s (m * up e * down d) t (n * up d * down e))
     (scales : (L D : ℕ) → 0 < L → 0 < D → (s t : Bool) (X Y a b : ℕ) → X * L ≡ a * D → Y * L ≡ b * D → test s X t Y ≡ test s a t b) where
-  by-steps : (f : Format) (x y : Float) → Number f x → Number f y → compared x y ≡ test (minus x) (steps f x) (minus y) (steps f y)
+  by-steps : (f : Format) (x y : Float) → Number f x → Number f y → compared x y ≡ test (isMinus x) (steps f x) (isMinus y) (steps f y)
   by-steps f nan y h k = absurd (h .1)
   by-steps f (inf s) y h k = absurd (h .1)
   by-steps f (fin s m e) nan h k = absurd (k .1)
@@ -43,10 +43,10 @@ eq-over-one : (s : Bool) (m : ℕ) (e : ℤ) (t : Bool) (n : ℕ) (d : ℤ) → 
 unfolding eq
 eq-over-one s m e t n d = refl
 
-lt-steps : (f : Format) (x y : Float) → Number f x → Number f y → lt x y ≡ below (minus x) (steps f x) (minus y) (steps f y)
+lt-steps : (f : Format) (x y : Float) → Number f x → Number f y → lt x y ≡ below (isMinus x) (steps f x) (isMinus y) (steps f y)
 lt-steps = by-steps lt below lt-over-one scaled-below
 
-eq-steps : (f : Format) (x y : Float) → Number f x → Number f y → eq x y ≡ level (minus x) (steps f x) (minus y) (steps f y)
+eq-steps : (f : Format) (x y : Float) → Number f x → Number f y → eq x y ≡ level (isMinus x) (steps f x) (isMinus y) (steps f y)
 eq-steps = by-steps eq level eq-over-one scaled-level
 
 -- ---- the place on the line
@@ -55,7 +55,7 @@ abbrev pub along : ℕ → Bool → ℕ → ℕ
 along o s a = cond s (o - a) (o + a)
 
 unfoldable pub place : Format → Float → ℕ
-place f x = along (overflow f) (minus x) (steps f x)
+place f x = along (overflow f) (isMinus x) (steps f x)
 
 alike : (a b : ℕ) → T (eqb a b && true) ↔ (a ≡ b)
 alike a b = (λ h. eqb→eq a b (and-l (eqb a b) true h), λ e. and-i (eqb a b) true (eq→eqb e) tt)
@@ -96,11 +96,11 @@ module _ (f : Format) (x y : Float) (h : Number f x) (k : Number f y) where
 
   pub lt-place : T (lt x y) ↔ (place f x < place f y)
   unfolding place
-  lt-place = rw (lt-steps f x y h k) (below-along (overflow f) (minus x) (minus y) (steps f x) (steps f y) x-in y-in)
+  lt-place = rw (lt-steps f x y h k) (below-along (overflow f) (isMinus x) (isMinus y) (steps f x) (steps f y) x-in y-in)
 
   pub eq-place : T (eq x y) ↔ (place f x ≡ place f y)
   unfolding place
-  eq-place = rw (eq-steps f x y h k) (level-along (overflow f) (minus x) (minus y) (steps f x) (steps f y) x-in y-in)
+  eq-place = rw (eq-steps f x y h k) (level-along (overflow f) (isMinus x) (isMinus y) (steps f x) (steps f y) x-in y-in)
 
   pub le-place : T (le x y) ↔ (place f x ≤ place f y)
   unfolding le
@@ -111,13 +111,13 @@ module _ (f : Format) (x y : Float) (h : Number f x) (k : Number f y) where
 
   pub gap-place : gap f x y ≡ distance (place f x) (place f y)
   unfolding gap place
-  gap-place = gap-along (overflow f) (minus x) (minus y) (steps f x) (steps f y) x-in y-in
+  gap-place = gap-along (overflow f) (isMinus x) (isMinus y) (steps f x) (steps f y) x-in y-in
 
 -- of two that are not minus, the steps compare
 from-the-same : (o a b : ℕ) → ((o + a ≤ o + b) ↔ (a ≤ b)) × ((o + a < o + b) ↔ (a < b))
 from-the-same o a b = omega arith
 
-module _ (f : Format) (x y : Float) (h : Number f x) (k : Number f y) (p : minus x ≡ false) (q : minus y ≡ false) where
+module _ (f : Format) (x y : Float) (h : Number f x) (k : Number f y) (p : isMinus x ≡ false) (q : isMinus y ≡ false) where
   pub plus-le : T (le x y) ↔ (steps f x ≤ steps f y)
   unfolding place
   plus-le = Iff·trans (rw (p, q) at (le-place f x y h k)) (from-the-same (overflow f) (steps f x) (steps f y) .0)
@@ -152,7 +152,7 @@ module _ (f : Format) (x y : Float) (h : Number f x) (k : Number f y) (n : T (no
 
 -- ---- a rounded fraction against a number that is not minus
 
-finite-below : (z y : Float) → minus z ≡ false → T (isFinite y) → T (le z y) → T (isFinite z)
+finite-below : (z y : Float) → isMinus z ≡ false → T (isFinite y) → T (le z y) → T (isFinite z)
 unfolding le lt eq
 finite-below nan y s k t = absurd t
 finite-below (inf true) y s k t = absurd (true≢false s)
@@ -161,7 +161,7 @@ finite-below (inf false) (inf u) s k t = absurd k
 finite-below (inf false) (fin u n d) s k t = absurd t
 finite-below (fin u m e) y s k t = tt
 
-module _ (f : Format) (a c : ℕ) (y : Float) (k : Number f y) (plus : minus y ≡ false) where
+module _ (f : Format) (a c : ℕ) (y : Float) (k : Number f y) (plus : isMinus y ≡ false) where
   compares : rounded f a c < overflow f → T (le (round f false a c) y) ↔ (rounded f a c ≤ steps f y)
   compares r =
       let v = round-steps f false a c r in

@@ -17,7 +17,7 @@ use lib.Ieee.Exact.{HasValue, units-val}
 use lib.Ieee.Nearest.{closest}
 use lib.Ieee.Order.{drop, kept}
 use lib.Ieee.Scale.{grid, overflow}
-use Rattle.exact.specs.Numbers.{isFinite, Number, magnitude, minus, steps, distance}
+use Rattle.exact.specs.Numbers.{isFinite, Number, magnitude, isMinus, steps, distance}
 use Rattle.exact.proofs.Basics.{not-below}
 use Rattle.exact.proofs.Steps.{moved, steps-of-value, steps-lt, same-number}
 
@@ -185,7 +185,7 @@ round-units f s a c h =
     (units-val f s (kept (prec f) (a * 2 ^ low f) c) (drop (prec f) (a * 2 ^ low f) c) h)
 
 -- below overflow: the rounded steps, with the sign given
-pub round-steps : (f : Format) (s : Bool) (a c : ℕ) → rounded f a c < overflow f → (steps f (round f s a c) ≡ rounded f a c) × (minus (round f s a c) ≡ s) × T (isFinite (round f s a c))
+pub round-steps : (f : Format) (s : Bool) (a c : ℕ) → rounded f a c < overflow f → (steps f (round f s a c) ≡ rounded f a c) × (isMinus (round f s a c) ≡ s) × T (isFinite (round f s a c))
 round-steps f s a c h = steps-of-value f (round f s a c) s (rounded f a c) (round-units f s a c h)
 
 -- from overflow on: an infinity; so a finite result lies below
@@ -201,16 +201,16 @@ round-finite f s a c t =
     go false l u = absurd u
 
 -- rounding of a representable value
-pub round-same-number : (f : Format) (x : Float) → Number f x → round f (minus x) (steps f x) (2 ^ low f) ≡ x
+pub round-same-number : (f : Format) (x : Float) → Number f x → round f (isMinus x) (steps f x) (2 ^ low f) ≡ x
 round-same-number f x w =
     let e = rounded-exact f (steps f x) (2 ^ low f) x (pow-pos (low f)) (w .0) refl in
-    let r = round-steps f (minus x) (steps f x) (2 ^ low f) (subst (λ (z : ℕ). z < overflow f) (sym e) (steps-lt f x (w .0))) in
-    same-number f (round f (minus x) (steps f x) (2 ^ low f)) x (round-fits f (minus x) (steps f x) (2 ^ low f), r .2) w (r .1) (r .0 ∙ e)
+    let r = round-steps f (isMinus x) (steps f x) (2 ^ low f) (subst (λ (z : ℕ). z < overflow f) (sym e) (steps-lt f x (w .0))) in
+    same-number f (round f (isMinus x) (steps f x) (2 ^ low f)) x (round-fits f (isMinus x) (steps f x) (2 ^ low f), r .2) w (r .1) (r .0 ∙ e)
 
 -- ---- the sign of a rounded value is the sign given, and its size does not depend on it
 
 abbrev Signed : Bool → Float → Float → Type 0
-Signed s x y = (minus x ≡ s) × (magnitude x ≡ y)
+Signed s x y = (isMinus x ≡ s) × (magnitude x ≡ y)
 
 odd-signed : (d : ℕ) (s : Bool) (q k l : ℕ) → Signed s (odd d s q k l) (odd d false q k l)
 unfolding odd magnitude
@@ -230,7 +230,7 @@ units-signed f s q k =
 round-signed : (f : Format) (s : Bool) (a c : ℕ) → Signed s (round f s a c) (round f false a c)
 round-signed f s a c = rw (round-is f s a c, round-is f false a c) (units-signed f s (kept (prec f) (a * 2 ^ low f) c) (drop (prec f) (a * 2 ^ low f) c))
 
-pub round-minus : (f : Format) (s : Bool) (a c : ℕ) → minus (round f s a c) ≡ s
+pub round-minus : (f : Format) (s : Bool) (a c : ℕ) → isMinus (round f s a c) ≡ s
 round-minus f s a c = round-signed f s a c .0
 
 pub round-magnitude : (f : Format) (s : Bool) (a c : ℕ) → magnitude (round f s a c) ≡ round f false a c

@@ -1,4 +1,4 @@
--- The signs of sums, products and quotients, NaN and infinities included: `minus` is false of a NaN, so "not minus" is "NaN, or the sign
+-- The signs of sums, products and quotients, NaN and infinities included: `isMinus` is false of a NaN, so "not minus" is "NaN, or the sign
 -- bit clear", which sums, products and quotients keep. What is not minus is never below zero, so a sum of squares never is.
 use mathlib.Core.Path.{_≡_, refl, sym, _∙_}
 use mathlib.Core.Bool.{Bool, true, false, cond, true≢false}
@@ -7,16 +7,16 @@ use native.Mathlib.Nat.{le-trans, le-of-eq, zero-mul}
 use borrow.Author.Tests.{le-ltb}
 use lib.Dec.{eqb}
 use lib.Ieee.{Float, nan, inf, fin, Format, binary64, up, down, fits, unlike, round, sum, add, mul, div, lt, ofBits}
-use Rattle.exact.specs.Numbers.{nought, Number, magnitude, minus, _⊕_, _⊗_}
+use Rattle.exact.specs.Numbers.{nought, Number, magnitude, isMinus, _⊕_, _⊗_}
 use Rattle.exact.proofs.Rounding.{round-minus}
 
 -- ---- a sum of two that are not minus
 
-sum-plus : (f : Format) (a b c : ℕ) → minus (sum f false a false b c) ≡ false
+sum-plus : (f : Format) (a b c : ℕ) → isMinus (sum f false a false b c) ≡ false
 unfolding sum
 sum-plus f a b c = round-minus f false (a + b) c
 
-pub add-plus : (f : Format) (x y : Float) → minus x ≡ false → minus y ≡ false → minus (add f x y) ≡ false
+pub add-plus : (f : Format) (x y : Float) → isMinus x ≡ false → isMinus y ≡ false → isMinus (add f x y) ≡ false
 unfolding add
 add-plus f nan y h k = refl
 add-plus f (inf true) y h k = absurd (true≢false h)
@@ -38,11 +38,11 @@ alike true false e = absurd (true≢false e)
 alike false true e = absurd (true≢false (sym e))
 alike false false e = refl
 
-either : (b : Bool) (x y : Float) → minus x ≡ false → minus y ≡ false → minus (cond b x y) ≡ false
+either : (b : Bool) (x y : Float) → isMinus x ≡ false → isMinus y ≡ false → isMinus (cond b x y) ≡ false
 either true x y h k = h
 either false x y h k = k
 
-pub mul-plus : (f : Format) (x y : Float) → minus x ≡ minus y → minus (mul f x y) ≡ false
+pub mul-plus : (f : Format) (x y : Float) → isMinus x ≡ isMinus y → isMinus (mul f x y) ≡ false
 unfolding mul
 mul-plus f nan y e = refl
 mul-plus f (inf s) nan e = refl
@@ -52,7 +52,7 @@ mul-plus f (fin s m a) nan e = refl
 mul-plus f (fin s m a) (inf t) e = either (eqb m 0) nan (inf (unlike s t)) refl (alike s t e)
 mul-plus f (fin s m a) (fin t n d) e = round-minus f (unlike s t) (m * up a * (n * up d)) (down a * down d) ∙ alike s t e
 
-pub div-plus : (f : Format) (x y : Float) → minus x ≡ minus y → minus (div f x y) ≡ false
+pub div-plus : (f : Format) (x y : Float) → isMinus x ≡ isMinus y → isMinus (div f x y) ≡ false
 unfolding div
 div-plus f nan y e = refl
 div-plus f (inf s) nan e = refl
@@ -67,20 +67,20 @@ div-plus f (fin s m a) (fin t n d) e =
 
 -- ---- what is not minus is not below zero
 
-pub not-below-zero : (x : Float) → minus x ≡ false → lt x nought ≡ false
+pub not-below-zero : (x : Float) → isMinus x ≡ false → lt x nought ≡ false
 unfolding lt ofBits
 not-below-zero nan h = refl
 not-below-zero (inf s) h = h
 not-below-zero (fin true m e) h = absurd (true≢false h)
 not-below-zero (fin false m e) h = le-ltb (m * up e * 1) (0 * down e) (le-trans (le-of-eq (zero-mul (down e))) zero-le)
 
-pub three-squares : (a b c : Float) → minus (a ⊗ a ⊕ b ⊗ b ⊕ c ⊗ c) ≡ false
+pub three-squares : (a b c : Float) → isMinus (a ⊗ a ⊕ b ⊗ b ⊕ c ⊗ c) ≡ false
 three-squares a b c = add-plus binary64 (a ⊗ a ⊕ b ⊗ b) (c ⊗ c) (add-plus binary64 (a ⊗ a) (b ⊗ b) (mul-plus binary64 a a refl) (mul-plus binary64 b b refl)) (mul-plus binary64 c c refl)
 
 -- ---- a finite number that is not minus
 
 abbrev pub Plus : Float → Type 0
-Plus x = Number binary64 x × (minus x ≡ false)
+Plus x = Number binary64 x × (isMinus x ≡ false)
 
 pub magnitude-plus : (x : Float) → Number binary64 x → Plus (magnitude x)
 unfolding magnitude fits

@@ -12,7 +12,7 @@ use lib.Ieee.Fits.{and-l, and-r, up-pos, down-pos}
 use lib.Ieee.Bits.{ofBits-toBits}
 use lib.Ieee.Exact.{HasValue}
 use lib.Ieee.Scale.{overflow}
-use Rattle.exact.specs.Numbers.{isFinite, Number, minus, steps}
+use Rattle.exact.specs.Numbers.{isFinite, Number, isMinus, steps}
 use Rattle.exact.proofs.Basics.{not-below}
 
 -- ---- what it takes to fit, as facts
@@ -80,7 +80,7 @@ moved f (inf s) h = record { significand = 0; places = 0; few = pow-pos (prec f)
 moved f (fin s m e) h = record { significand = m; places = shift f e; few = facts f s m e h .0; is = steps-shift f s m e h }
 
 -- a finite number is as many steps as `steps` says
-pub in-steps : (f : Format) (x : Float) → Number f x → HasValue x (minus x) (steps f x) (2 ^ low f)
+pub in-steps : (f : Format) (x : Float) → Number f x → HasValue x (isMinus x) (steps f x) (2 ^ low f)
 in-steps f nan h = absurd (h .1)
 in-steps f (inf s) h = absurd (h .1)
 in-steps f (fin s m e) h = (
@@ -92,7 +92,7 @@ in-steps f (fin s m e) h = (
 )
 
 -- and no number of steps but that is its value
-pub steps-of-value : (f : Format) (x : Float) (s : Bool) (a : ℕ) → HasValue x s a (2 ^ low f) → (steps f x ≡ a) × (minus x ≡ s) × T (isFinite x)
+pub steps-of-value : (f : Format) (x : Float) (s : Bool) (a : ℕ) → HasValue x s a (2 ^ low f) → (steps f x ≡ a) × (isMinus x ≡ s) × T (isFinite x)
 unfolding steps
 steps-of-value f nan s a h = absurd h
 steps-of-value f (inf t) s a h = absurd h
@@ -114,15 +114,15 @@ steps-lt f (fin s m e) h =
 unfoldable pub word-of : Format → Bool → ℕ → ℕ
 word-of f s n = cond s (top f) 0 + (size n - prec f) * hid f + n / 2 ^ (size n - prec f)
 
-pub toBits-steps : (f : Format) (x : Float) → T (isFinite x) → toBits f x ≡ word-of f (minus x) (steps f x)
+pub toBits-steps : (f : Format) (x : Float) → T (isFinite x) → toBits f x ≡ word-of f (isMinus x) (steps f x)
 unfolding toBits steps word-of
 toBits-steps f nan k = absurd k
 toBits-steps f (inf s) k = absurd k
 toBits-steps f (fin s m e) k = refl
 
 -- equal sign and size mean equal numbers
-pub same-number : (f : Format) (x y : Float) → Number f x → Number f y → minus x ≡ minus y → steps f x ≡ steps f y → x ≡ y
+pub same-number : (f : Format) (x y : Float) → Number f x → Number f y → isMinus x ≡ isMinus y → steps f x ≡ steps f y → x ≡ y
 same-number f x y h k s e =
     sym (ofBits-toBits f x (h .0))
-    ∙ ap (ofBits f) (toBits-steps f x (h .1) ∙ ap (λ (t : Bool). word-of f t (steps f x)) s ∙ ap (word-of f (minus y)) e ∙ sym (toBits-steps f y (k .1)))
+    ∙ ap (ofBits f) (toBits-steps f x (h .1) ∙ ap (λ (t : Bool). word-of f t (steps f x)) s ∙ ap (word-of f (isMinus y)) e ∙ sym (toBits-steps f y (k .1)))
     ∙ ofBits-toBits f y (k .0)

@@ -10,7 +10,7 @@ use lib.Dec.{T}
 use lib.Pow.{pow-pos}
 use lib.Ieee.{Float, nan, inf, fin, binary64, low, fits, neg, add, sub, lt, eq, le, ofBits}
 use lib.Ieee.Bits.{ofBits-fits}
-use Rattle.exact.specs.Numbers.{_⊖_, numberOf, tolerance, isFinite, Number, magnitude, isNear, minus, steps, distance, gap, inSteps, mostGap}
+use Rattle.exact.specs.Numbers.{_⊖_, numberOf, tolerance, isFinite, Number, magnitude, isNear, isMinus, steps, distance, gap, inSteps, mostGap}
 use Rattle.exact.proofs.Basics.{not-below}
 use Rattle.exact.proofs.Rounding.{rounded, nothing-nearer, rounded-le}
 use Rattle.exact.proofs.Order.{round-le}
@@ -51,7 +51,7 @@ tolerance-number : Number binary64 tolerance
 unfolding fits ofBits
 tolerance-number = (tt, tt)
 
-tolerance-plus : minus tolerance ≡ false
+tolerance-plus : isMinus tolerance ≡ false
 unfolding ofBits
 tolerance-plus = refl
 

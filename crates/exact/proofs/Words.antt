@@ -14,7 +14,7 @@ use lib.Ieee.Fits.{two, reach, kept-lt}
 use lib.Ieee.Bits.{nanBits-above}
 use lib.Ieee.Exact.{HasValue, odd-sign}
 use lib.Ieee.Scale.{overflow}
-use Rattle.exact.specs.Numbers.{Number, minus, steps}
+use Rattle.exact.specs.Numbers.{Number, isMinus, steps}
 use Rattle.exact.proofs.Basics.{failed}
 use Rattle.exact.proofs.Steps.{word-of, toBits-steps, steps-lt}
 
@@ -103,6 +103,6 @@ module _ (f : Format) (n : ℕ) (N : 0 < n) (O : n < overflow f) where
       under : (k h q o : ℕ) → q < 2 * h → suc (suc k) * h ≤ o → 0 + k * h + q < o
       under k h q o a b = omega arith
 
-pub positive-word : (f : Format) (x : Float) → Number f x → minus x ≡ false → 0 < steps f x → (0 < toBits f x) × (toBits f x < ones f * hid f)
+pub positive-word : (f : Format) (x : Float) → Number f x → isMinus x ≡ false → 0 < steps f x → (0 < toBits f x) × (toBits f x < ones f * hid f)
 positive-word f x h plus p =
     rw (toBits-steps f x (h .1), plus) (between f (steps f x) p (steps-lt f x (h .0)))

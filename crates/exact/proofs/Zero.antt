@@ -12,7 +12,7 @@ use lib.Ieee.{Float, nan, inf, fin, binary64, low, up, down, unlike, round, mul,
 use lib.Ieee.Fits.{down-pos}
 use lib.Ieee.Bits.{ofBits-fits}
 use lib.Ieee.Scale.{overflow, round-same}
-use Rattle.exact.specs.Numbers.{nought, Number, minus, steps, _⊕_, _⊖_, _⊗_}
+use Rattle.exact.specs.Numbers.{nought, Number, isMinus, steps, _⊕_, _⊖_, _⊗_}
 use Rattle.exact.proofs.Rounding.{round-same-number}
 use Rattle.exact.proofs.Order.{along, place, lt-place}
 use Rattle.exact.proofs.Arithmetic.{sum-alike, sum-unlike, add-steps, sub-steps}
@@ -25,11 +25,11 @@ pub nought-steps : steps binary64 nought ≡ 0
 unfolding steps ofBits
 nought-steps = refl
 
-pub nought-plus : minus nought ≡ false
+pub nought-plus : isMinus nought ≡ false
 unfolding ofBits
 nought-plus = refl
 
-module _ (x : Float) (h : Number binary64 x) (plus : minus x ≡ false) where
+module _ (x : Float) (h : Number binary64 x) (plus : isMinus x ≡ false) where
   unit : ℕ
   unit = 2 ^ low binary64
 
@@ -58,9 +58,9 @@ apart o a true = ((λ l. absurd (not-past l)), λ p. absurd (true≢false (p .0)
     not-past l = omega arith
 apart o a false = ((λ l. (refl, omega arith)), λ p. omega (arith, p .1))
 
-pub positive-is : (x : Float) → Number binary64 x → T (lt nought x) ↔ ((minus x ≡ false) × (0 < steps binary64 x))
+pub positive-is : (x : Float) → Number binary64 x → T (lt nought x) ↔ ((isMinus x ≡ false) × (0 < steps binary64 x))
 unfolding place
-positive-is x h = Iff·trans (rw (nought-plus, nought-steps) at (lt-place binary64 nought x nought-number h)) (apart (overflow binary64) (steps binary64 x) (minus x))
+positive-is x h = Iff·trans (rw (nought-plus, nought-steps) at (lt-place binary64 nought x nought-number h)) (apart (overflow binary64) (steps binary64 x) (isMinus x))
 
 -- ---- a number times 0 is a zero of its sign
 
@@ -72,7 +72,7 @@ round-zero : (s : Bool) (c : ℕ) → 0 < c → round binary64 s 0 c ≡ zero s
 unfolding round zero
 round-zero s c C = round-same binary64 s 0 c 0 1 C (lit< tt) (omega arith)
 
-pub times-nought : (x : Float) → Number binary64 x → x ⊗ nought ≡ zero (minus x)
+pub times-nought : (x : Float) → Number binary64 x → x ⊗ nought ≡ zero (isMinus x)
 unfolding mul ofBits
 times-nought nan h = absurd (h .1)
 times-nought (inf s) h = absurd (h .1)

@@ -69,10 +69,10 @@ middle lo hi = lo ⊕ (hi ⊖ lo) ⊘ two
 -- ---- "Every finite binary64 number is a whole multiple of 2^-1074; state exact differences over whole numbers so."
 
 -- whether the sign is minus
-abbrev pub minus : Float → Bool
-minus nan = false
-minus (inf s) = s
-minus (fin s m e) = s
+abbrev pub isMinus : Float → Bool
+isMinus nan = false
+isMinus (inf s) = s
+isMinus (fin s m e) = s
 
 -- how many steps of the format's smallest value (2^-1074) a finite number is, without its sign
 unfoldable pub steps : Format → Float → ℕ
@@ -87,7 +87,7 @@ distance a b = a - b + (b - a)
 -- the exact difference of two finite numbers, without its sign, in steps: |±a - ±b|
 unfoldable pub gap : Format → Float → Float → ℕ
 unfolding steps
-gap f x y = cond (Bool·beq (minus x) (minus y)) (distance (steps f x) (steps f y)) (steps f x + steps f y)
+gap f x y = cond (Bool·beq (isMinus x) (isMinus y)) (distance (steps f x) (steps f y)) (steps f x + steps f y)
 
 -- 2^-k in steps
 unfoldable pub inSteps : ℕ → ℕ

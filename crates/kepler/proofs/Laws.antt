@@ -31,20 +31,20 @@ use Rattle.kepler.specs.Kepler.{arrivedAt, outcomeOf, foundIn, afterEntr
 
 -- ---- the count
 
-abbrev pub countOf : Said → ℕ
-countOf (solved x n state) = n
-countOf (refused k n) = n
-countOf (refusedWithBracket k n lo hi) = n
+abbrev pub guessesIn : Said → ℕ
+guessesIn (solved x n state) = n
+guessesIn (refused k n) = n
+guessesIn (refusedWithBracket k n lo hi) = n
 
 pub refused-before : (p : Problem) (k : ℕ) → entryOf p ≡ refuse k → keplerOf p ≡ refused k 0
 unfolding keplerOf
 refused-before p k h = ap (afterEntry (p .limit)) h
 
-state-count : (x : Float) (n : ℕ) (c : Checked State) → countOf (withState x n c) ≡ n
+state-count : (x : Float) (n : ℕ) (c : Checked State) → guessesIn (withState x n c) ≡ n
 state-count x n (pass state) = refl
 state-count x n (refuse k) = refl
 
-outcome-count : (o : Scaled) (e : search.Ended) → countOf (outcomeOf o e) ≡ count.countOf e
+outcome-count : (o : Scaled) (e : search.Ending) → guessesIn (outcomeOf o e) ≡ count.guessesIn e
 unfolding arrivedAt
 outcome-count o (search.solved x n) = state-count x n (arrivalAt o x)
 outcome-count o (search.closed b n) = refl
@@ -56,7 +56,7 @@ module _ (p : Problem) (o : Scaled) (b : Bracket) (h : entryOf p ≡ pass (o, b)
   unfolding keplerOf
   searched = ap (afterEntry (p .limit)) h
 
-  pub counts : (1 ≤ countOf (keplerOf p)) × (countOf (keplerOf p) ≤ p .limit)
+  pub counts : (1 ≤ guessesIn (keplerOf p)) × (guessesIn (keplerOf p) ≤ p .limit)
   unfolding foundIn
   counts = rw (searched, outcome-count o (foundIn o (p .limit) b)) (count.search-counts (timeAt o) (o .t) (p .limit) b (entered p o b h .least))
 
@@ -83,7 +83,7 @@ module _ (p : Problem) (o : Scaled) (b : Bracket) (h : entryOf p ≡ pass (o, b)
 
 -- ---- every answer comes from the entry or from the end of a search
 
-by-origin : (P : Said → Type 0) (p : Problem) → ((k : ℕ) → entryOf p ≡ refuse k → P (refused k 0)) → ((o : Scaled) (b : Bracket) → entryOf p ≡ pass (o, b) → (e : search.Ended) → foundIn o (p .limit) b ≡ e → P (outcomeOf o e))
+by-origin : (P : Said → Type 0) (p : Problem) → ((k : ℕ) → entryOf p ≡ refuse k → P (refused k 0)) → ((o : Scaled) (b : Bracket) → entryOf p ≡ pass (o, b) → (e : search.Ending) → foundIn o (p .limit) b ≡ e → P (outcomeOf o e))
     → P (keplerOf p)
 unfolding keplerOf
 by-origin P p at-entry at-end = go (entryOf p) refl
@@ -104,7 +104,7 @@ state-numbered : (x : Float) (n : ℕ) (c : Checked State) → Refuses Numbered 
 state-numbered x n (pass state) r = tt
 state-numbered x n (refuse k) r = refusal-has r refl
 
-end-numbered : (o : Scaled) (e : search.Ended) → RefusalNumbered (outcomeOf o e)
+end-numbered : (o : Scaled) (e : search.Ending) → RefusalNumbered (outcomeOf o e)
 unfolding arrivedAt
 end-numbered o (search.solved x n) = state-numbered x n (arrivalAt o x) (arrival-refuses o x)
 end-numbered o (search.closed b n) = tt
@@ -135,7 +135,7 @@ state-solves : (p : Problem) (x : Float) (n : ℕ) (c : Checked State) → ((sta
 state-solves p x n (pass state) is = is state refl
 state-solves p x n (refuse k) is = tt
 
-end-solves : (p : Problem) (o : Scaled) (b : Bracket) → entryOf p ≡ pass (o, b) → (e : search.Ended) → foundIn o (p .limit) b ≡ e → Solves p (outcomeOf o e)
+end-solves : (p : Problem) (o : Scaled) (b : Bracket) → entryOf p ≡ pass (o, b) → (e : search.Ending) → foundIn o (p .limit) b ≡ e → Solves p (outcomeOf o e)
 unfolding arrivedAt
 end-solves p o b h (search.solved x n) f =
     let near = found-near p o b h f in
@@ -183,7 +183,7 @@ named p o b h new w k n number =
     let i = kept p o b h new w in
     record { o = o; start = b; entry = h; number = number; lo-in = i .lo-in; hi-in = i .hi-in; in-order = i .in-order; lo-time = i .lo-time; hi-time = i .hi-time }
 
-end-names : (p : Problem) (o : Scaled) (b : Bracket) → entryOf p ≡ pass (o, b) → (e : search.Ended) → foundIn o (p .limit) b ≡ e → NamesWell p (outcomeOf o e)
+end-names : (p : Problem) (o : Scaled) (b : Bracket) → entryOf p ≡ pass (o, b) → (e : search.Ending) → foundIn o (p .limit) b ≡ e → NamesWell p (outcomeOf o e)
 unfolding arrivedAt
 end-names p o b h (search.solved x n) f = state-names p x n (arrivalAt o x)
 end-names p o b h (search.closed new n) f = named p o b h new (n, inl f) 9 n (inl refl)

@@ -17,14 +17,14 @@ unfoldable pub arrivedAt : Scaled → Float → ℕ → Said
 arrivedAt o x n = withState x n (arrivalAt o x)
 
 -- "A refusal carries its number, the count so far, and with 9 and 10 the bracket."
-abbrev pub outcomeOf : Scaled → search.Ended → Said
+abbrev pub outcomeOf : Scaled → search.Ending → Said
 outcomeOf o (search.solved x n) = arrivedAt o x n
 outcomeOf o (search.closed b n) = refusedWithBracket 9 n (b .lo .x) (b .hi .x)
 outcomeOf o (search.spent b n) = refusedWithBracket 10 n (b .lo .x) (b .hi .x)
 outcomeOf o (search.lost n) = refused 6 n
 
 -- the search for the x whose time is t
-unfoldable pub foundIn : Scaled → (limit : ℕ) → Bracket → search.Ended
+unfoldable pub foundIn : Scaled → (limit : ℕ) → Bracket → search.Ending
 foundIn o limit b = searchOf (timeAt o) (o .t) limit b
 
 -- a problem that passes the tests is searched; "0 before the first guess"

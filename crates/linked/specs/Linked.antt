@@ -14,10 +14,10 @@ abbrev pub stateSum : Float → State → Float
 stateSum x state = x ⊕ state .r .x ⊕ state .r .y ⊕ state .r .z ⊕ state .v .x ⊕ state .v .y ⊕ state .v .z
 
 -- the number of an outcome's refusal; 0 where it is solved, which is no refusal's number
-abbrev pub refusalIn : conic.Said → ℕ
-refusalIn (conic.solved x n state) = 0
-refusalIn (conic.refused k n) = k
-refusalIn (conic.refusedWithBracket k n lo hi) = k
+abbrev pub outcomeNumber : conic.Said → ℕ
+outcomeNumber (conic.solved x n state) = 0
+outcomeNumber (conic.refused k n) = k
+outcomeNumber (conic.refusedWithBracket k n lo hi) = k
 
 -- what a lent number becomes: the sum of a solved outcome; a refusal leaves it
 abbrev pub sumAfter : conic.Said → Float → Float

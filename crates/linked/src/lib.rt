@@ -13,13 +13,13 @@ ghost use Rattle.card.specs.Fields.{problemOf};
 ghost use Rattle.kepler.specs.Kepler.{keplerOf};
 ghost use Rattle.deck.specs.Said as deck;
 ghost use Rattle.deck.specs.Check.{answerOf, listAfter};
-ghost use Rattle.linked.specs.Linked.{refusalIn, stateSum, sumAfter, minusNumber, meanIn};
+ghost use Rattle.linked.specs.Linked.{outcomeNumber, stateSum, sumAfter, minusNumber, meanIn};
 
 // Kepler on the problem with which the bytes begin. Where it is solved the answer is 0, and `sum`
 // becomes x + rx + ry + rz + vx + vy + vz; else the refusal's number, and `sum` stays as it was lent.
 #[no_mangle]
 pub extern "C" fn tailfiddle_predict(problem: &[u8], sum: &mut f64) -> u32
-    ensures { λ r. ⌜ r ≡ refusalIn (keplerOf (problemOf (now (problem .entry)))) ⌝ }
+    ensures { λ r. ⌜ r ≡ outcomeNumber (keplerOf (problemOf (now (problem .entry)))) ⌝ }
     ensures { λ _. ⌜ now (sum .exit) ≡ sumAfter (keplerOf (problemOf (now (problem .entry)))) (now (sum .entry)) ⌝ }
 {
     match kepler::kepler(card::problem(problem)) {

@@ -5,7 +5,7 @@ use Prim.Native.Nat.{_+_, _*_, _/_, _^_, _<_}
 use native.Mathlib.Omega.{arith}
 use lib.Ieee.{Float, binary64, lt, eq, ofBits, toBits}
 use lib.Ieee.Bits.{ofBits-toBits}
-use Rattle.exact.specs.Numbers.{nought, isFinite, Number, minus, steps}
+use Rattle.exact.specs.Numbers.{nought, isFinite, Number, isMinus, steps}
 use Rattle.exact.proofs.Basics.{failed}
 use Rattle.exact.proofs.Order.{lt-of-neither}
 use Rattle.exact.proofs.Zero.{nought-number, positive-is}
@@ -38,14 +38,14 @@ module _ (x : Float) (finite : isFinite x ≡ true) where
 -- ---- above zero
 
 -- neither below zero nor zero
-pub above-zero : (x : Float) → Number binary64 x → lt x nought ≡ false → eq x nought ≡ false → (minus x ≡ false) × (0 < steps binary64 x)
+pub above-zero : (x : Float) → Number binary64 x → lt x nought ≡ false → eq x nought ≡ false → (isMinus x ≡ false) × (0 < steps binary64 x)
 above-zero x h b z = positive-is x h .0 (lt-of-neither binary64 x nought h nought-number (failed b) (failed z))
 
 -- the word of such a number, and the shape of its root
-pub word-between : (x : Float) → Number binary64 x → (minus x ≡ false) × (0 < steps binary64 x) → (0 < toBits binary64 x) × (toBits binary64 x < 0x7ff0_0000_0000_0000)
+pub word-between : (x : Float) → Number binary64 x → (isMinus x ≡ false) × (0 < steps binary64 x) → (0 < toBits binary64 x) × (toBits binary64 x < 0x7ff0_0000_0000_0000)
 word-between x h p = positive-word binary64 x h (p .0) (p .1)
 
-pub shape : (x : Float) → Number binary64 x → (minus x ≡ false) × (0 < steps binary64 x) → Shape x (nearestRoot x)
+pub shape : (x : Float) → Number binary64 x → (isMinus x ≡ false) × (0 < steps binary64 x) → Shape x (nearestRoot x)
 shape x h p =
     let w = word-between x h p in
     let f = has-form (toBits binary64 x) (w .0) (w .1) in

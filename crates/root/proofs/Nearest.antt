@@ -11,11 +11,11 @@ use lib.Dec.{T, ltb, ltb→lt, nltb→le}
 use lib.Pow.{pow-add, pow-pos, pow-mono}
 use lib.Ieee.{Float, binary64, lt}
 use lib.Ieee.Scale.{overflow}
-use Rattle.exact.specs.Numbers.{nought, Number, minus, steps}
+use Rattle.exact.specs.Numbers.{nought, Number, isMinus, steps}
 use Rattle.exact.proofs.Steps.{Moved, moved}
 use Rattle.exact.proofs.Order.{place, lt-place, plus-lt}
 use Rattle.exact.proofs.Zero.{nought-number, nought-steps, positive-is}
-use Rattle.root.specs.Root.{radicand, sum, Nearest}
+use Rattle.root.specs.Root.{radicand, sumInSteps, Nearest}
 use Rattle.root.proofs.Whole.{square-le, square-lt, leading, no-odd-square, pow-next, pow-double}
 use Rattle.root.proofs.Shape.{Shape}
 
@@ -155,20 +155,20 @@ module _ (x r : Float) (a : Shape x r) where
       let zero-below : (steps binary64 r + 0) * (steps binary64 r + 0) < 4 * radicand x = rw nought-steps at (size-below nought nought-number (rw nought-steps some)) in
       lt-of-le-of-lt (square-le (le-trans (sub-le (steps binary64 r) n) (le-of-eq (sym (add-zero (steps binary64 r)))))) zero-below
 
-  not-above : (y : Float) → Number binary64 y → minus y ≡ true → T (lt r y) → ⊥
+  not-above : (y : Float) → Number binary64 y → isMinus y ≡ true → T (lt r y) → ⊥
   unfolding place
   not-above y k m t = past (overflow binary64) (steps binary64 r) (steps binary64 y) (rw (a .plus, m) at (lt-place binary64 r y (a .number) k .0 t))
     where
       past : (o b c : ℕ) → o + b < o - c → ⊥
       past o b c l = omega arith
 
-  below-root : (y : Float) → Number binary64 y → T (lt y r) → (s : Bool) → minus y ≡ s → sum y r * sum y r < 4 * radicand x
-  unfolding sum
+  below-root : (y : Float) → Number binary64 y → T (lt y r) → (s : Bool) → isMinus y ≡ s → sumInSteps y r * sumInSteps y r < 4 * radicand x
+  unfolding sumInSteps
   below-root y k t true m = rw m (minus-below (steps binary64 y))
   below-root y k t false m = rw m (size-below y k (plus-lt binary64 y r k (a .number) m (a .plus) .0 t))
 
-  above-root : (y : Float) → Number binary64 y → T (lt r y) → (s : Bool) → minus y ≡ s → 4 * radicand x < sum y r * sum y r
-  unfolding sum
+  above-root : (y : Float) → Number binary64 y → T (lt r y) → (s : Bool) → isMinus y ≡ s → 4 * radicand x < sumInSteps y r * sumInSteps y r
+  unfolding sumInSteps
   above-root y k t true m = absurd (not-above y k m t)
   above-root y k t false m = rw m (size-above y k (plus-lt binary64 r y (a .number) k (a .plus) m .0 t))
 
@@ -176,6 +176,6 @@ module _ (x r : Float) (a : Shape x r) where
   is-nearest = record {
     number = a .number;
     positive = positive-is r (a .number) .1 (a .plus, some);
-    below = λ y k t. below-root y k t (minus y) refl;
-    above = λ y k t. above-root y k t (minus y) refl;
+    below = λ y k t. below-root y k t (isMinus y) refl;
+    above = λ y k t. above-root y k t (isMinus y) refl;
   }

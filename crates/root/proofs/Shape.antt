@@ -12,7 +12,7 @@ use lib.Ieee.{Float, Format, binary64, prec, low, fits, round, ofBits}
 use lib.Ieee.Fits.{round-fits}
 use lib.Ieee.Bits.{ofBits-fits}
 use lib.Ieee.Scale.{overflow}
-use Rattle.exact.specs.Numbers.{Number, minus, steps, distance}
+use Rattle.exact.specs.Numbers.{Number, isMinus, steps, distance}
 use Rattle.exact.proofs.Steps.{steps-of-value, steps-lt, same-number}
 use Rattle.exact.proofs.Rounding.{rounded, unit, half-unit, in-units, unit-is, round-steps}
 use Rattle.exact.proofs.Words.{normal-word}
@@ -28,7 +28,7 @@ pub record Shape (x r : Float) : Type 0 where
   pub form : InForm (steps binary64 x) v h
   pub whole : IsWholeRoot (v * 2 ^ 54) s
   pub number : Number binary64 r
-  pub plus : minus r ≡ false
+  pub plus : isMinus r ≡ false
   pub is : steps binary64 r ≡ (s + 1) / 2 * 2 ^ (h + 1)
 
 -- ---- the word that the code writes

@@ -10,7 +10,7 @@ use native.Mathlib.Omega.{arith}
 use lib.Dec.{T}
 use lib.Ieee.{Float, nan, inf, fin, binary64, fits, lt, eq, ofBits}
 use lib.Ieee.Bits.{is-true, is-false}
-use Rattle.exact.specs.Numbers.{nought, isFinite, minus, steps}
+use Rattle.exact.specs.Numbers.{nought, isFinite, isMinus, steps}
 use Rattle.exact.proofs.Basics.{passed, failed}
 use Rattle.exact.proofs.Coincidence.{one-result}
 use Rattle.exact.proofs.Steps.{same-number}
@@ -20,8 +20,8 @@ use Rattle.root.specs.declared.Answer.{Answer}
 use Rattle.root.specs.declared.Answer.the-variants.{Root, Refused}
 use Rattle.root.specs.declared.Reason.{Reason}
 use Rattle.root.specs.declared.Reason.the-variants.{NotFinite, BelowZero}
-use Rattle.root.specs.Said.{Said, root, refused, numberOf, said}
-use Rattle.root.specs.Root.{radicand, sum, nearestRoot, rootOf, Nearest, IsRoot}
+use Rattle.root.specs.Said.{Said, root, refused, reasonNumber, said}
+use Rattle.root.specs.Root.{radicand, sumInSteps, nearestRoot, rootOf, Nearest, IsRoot}
 use Rattle.root.proofs.Cases.{refuses-not-finite, refuses-below-zero, keeps-zero, finds-root, shape}
 use Rattle.root.proofs.Nearest.{is-nearest}
 
@@ -47,22 +47,22 @@ definition-holds x h = record {
 -- ---- one result has it
 
 module _ (x r t : Float) (a : Nearest x r) (b : Nearest x t) where
-  r-plus : minus r ≡ false
+  r-plus : isMinus r ≡ false
   r-plus = positive-is r (a .number) .0 (a .positive) .0
 
-  t-plus : minus t ≡ false
+  t-plus : isMinus t ≡ false
   t-plus = positive-is t (b .number) .0 (b .positive) .0
 
   -- the middle of the two is one number
-  sum-symmetric : sum r t ≡ sum t r
-  unfolding sum
+  sum-symmetric : sumInSteps r t ≡ sumInSteps t r
+  unfolding sumInSteps
   sum-symmetric = rw (r-plus, t-plus) (add-comm (steps binary64 t) (steps binary64 r))
 
   -- which cannot lie both below the root and above it
   not-lower : steps binary64 r < steps binary64 t → ⊥
   not-lower l =
       let low = plus-lt binary64 r t (a .number) (b .number) r-plus t-plus .1 l in
-      let below : sum t r * sum t r < 4 * radicand x = subst (λ (n : ℕ). n * n < 4 * radicand x) sum-symmetric (b .below r (a .number) low) in
+      let below : sumInSteps t r * sumInSteps t r < 4 * radicand x = subst (λ (n : ℕ). n * n < 4 * radicand x) sum-symmetric (b .below r (a .number) low) in
       lt-irrefl (4 * radicand x) (lt-trans (a .above t (b .number) low) below)
 
 pub one-nearest : (x r t : Float) → Nearest x r → Nearest x t → r ≡ t
@@ -90,7 +90,7 @@ one-root x s t h a b = go (isFinite x) (lt x nought) (eq x nought) refl refl ref
 pub contract-is-property : (x : Float) → T (fits binary64 x) → (s : Said) → (s ≡ rootOf x) ↔ IsRoot x s
 contract-is-property x h s = ((λ e. subst (IsRoot x) (sym e) (definition-holds x h)), λ a. one-root x s (rootOf x) h a (definition-holds x h))
 
-reason-once : (v w : Reason) → refused (numberOf v) ≡ refused (numberOf w) → v ≡ w
+reason-once : (v w : Reason) → refused (reasonNumber v) ≡ refused (reasonNumber w) → v ≡ w
 reason-once NotFinite NotFinite e = refl
 reason-once NotFinite BelowZero e = let z : _≡_ {A = ℕ} 1 13 = cc in absurd (omega arith)
 reason-once BelowZero NotFinite e = let z : _≡_ {A = ℕ} 13 1 = cc in absurd (omega arith)

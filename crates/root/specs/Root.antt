@@ -4,7 +4,7 @@ use mathlib.Core.Bool.{not, false, cond}
 use Prim.Native.Nat.{ℕ, _+_, _-_, _*_, _^_, _<_}
 use lib.Dec.{T}
 use lib.Ieee.{Float, binary64, round, lt, eq}
-use Rattle.exact.specs.Numbers.{nought, isFinite, Number, minus, steps}
+use Rattle.exact.specs.Numbers.{nought, isFinite, Number, isMinus, steps}
 use Rattle.root.specs.Said.{Said, root, refused}
 use Rattle.root.specs.Whole.{wholeRoot}
 
@@ -24,16 +24,16 @@ rootOf x = cond (isFinite x) (cond (lt x nought) (refused 13) (cond (eq x nought
 -- ---- "State this over whole numbers by comparing squares."
 
 -- y + r in steps, for an r above zero; 0 where the sum is below zero
-unfoldable pub sum : Float → Float → ℕ
-sum y r = cond (minus y) (steps binary64 r - steps binary64 y) (steps binary64 r + steps binary64 y)
+unfoldable pub sumInSteps : Float → Float → ℕ
+sumInSteps y r = cond (isMinus y) (steps binary64 r - steps binary64 y) (steps binary64 r + steps binary64 y)
 
 -- No finite binary64 number y is as near the exact root of x as r is: if y lies below r, the middle of the two lies below the root, and
 -- if y lies above r, above it. The middle is (y + r) / 2, and its square is compared with the radicand.
 pub record Nearest (x r : Float) : Type 0 where
   pub number : Number binary64 r
   pub positive : T (lt nought r)
-  pub below : (y : Float) → Number binary64 y → T (lt y r) → sum y r * sum y r < 4 * radicand x
-  pub above : (y : Float) → Number binary64 y → T (lt r y) → 4 * radicand x < sum y r * sum y r
+  pub below : (y : Float) → Number binary64 y → T (lt y r) → sumInSteps y r * sumInSteps y r < 4 * radicand x
+  pub above : (y : Float) → Number binary64 y → T (lt r y) → 4 * radicand x < sumInSteps y r * sumInSteps y r
 
 -- what s has to be, for every input x
 pub record IsRoot (x : Float) (s : Said) : Type 0 where

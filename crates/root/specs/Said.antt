@@ -7,9 +7,9 @@ use Rattle.root.specs.declared.Answer.{Answer}
 use Rattle.root.specs.declared.Answer.the-variants.{Root, Refused}
 
 -- "Refusal numbers": 1, an input number is NaN or infinite; 13, root alone: input finite and below zero
-abbrev pub numberOf : Reason → ℕ
-numberOf NotFinite = 1
-numberOf BelowZero = 13
+abbrev pub reasonNumber : Reason → ℕ
+reasonNumber NotFinite = 1
+reasonNumber BelowZero = 13
 
 -- a root, or a refusal by its number
 pub data Said : Type 0 where
@@ -18,4 +18,4 @@ pub data Said : Type 0 where
 
 abbrev pub said : Answer → Said
 said (Root x) = root x
-said (Refused why) = refused (numberOf why)
+said (Refused why) = refused (reasonNumber why)

@@ -4,7 +4,7 @@
 // it are private.
 ghost use mathlib.Core.Path.{_≡_};
 ghost use Rattle.root.specs.Root.{rootOf};
-ghost use Rattle.root.specs.Said.{numberOf, said};
+ghost use Rattle.root.specs.Said.{reasonNumber, said};
 
 mod digits;
 
@@ -17,7 +17,7 @@ pub enum Reason {
 impl Reason {
     // The number that document 01 gives it.
     pub fn number(self) -> u32
-        ensures { λ r. ⌜ r ≡ numberOf self ⌝ }
+        ensures { λ r. ⌜ r ≡ reasonNumber self ⌝ }
     {
         match self {
             Reason::NotFinite => 1,

@@ -2,14 +2,14 @@
 use mathlib.Core.Path.{_≡_, refl, subst}
 use mathlib.Core.Bool.{Bool, true, false, cond, true≢false}
 use Prim.Native.Nat.{ℕ}
-use Rattle.rows.specs.Rows.{Checked, pass, refuse, guard, onward}
+use Rattle.rows.specs.Rows.{Checked, pass, refuse, must, onward}
 
 pub pass-once : {A : Type 0} {x y : A} → _≡_ {A = Checked A} (pass x) (pass y) → x ≡ y
 pass-once e = cc
 
 -- a test that let something pass held, and so did the rest
-pub test-passed : {A : Type 0} (t : Bool) (k : ℕ) (rest : Checked A) {x : A} → guard t k rest ≡ pass x → (t ≡ true) × (rest ≡ pass x)
-unfolding guard
+pub test-passed : {A : Type 0} (t : Bool) (k : ℕ) (rest : Checked A) {x : A} → must t k rest ≡ pass x → (t ≡ true) × (rest ≡ pass x)
+unfolding must
 test-passed true k rest e = (refl, e)
 test-passed false k rest e = absurd (true≢false cc)
 
@@ -25,10 +25,10 @@ pub data Refuses {A : Type 0} (P : ℕ → Type 0) : Checked A → Type 0 where
   refuses : {k : ℕ} → P k → Refuses P (refuse k)
 
 module _ {A : Type 0} {P : ℕ → Type 0} where
-  pub guard-refuses : (t : Bool) (k : ℕ) (rest : Checked A) → P k → Refuses P rest → Refuses P (guard t k rest)
-  unfolding guard
-  guard-refuses true k rest p r = r
-  guard-refuses false k rest p r = refuses p
+  pub must-refuses : (t : Bool) (k : ℕ) (rest : Checked A) → P k → Refuses P rest → Refuses P (must t k rest)
+  unfolding must
+  must-refuses true k rest p r = r
+  must-refuses false k rest p r = refuses p
 
   pub cond-refuses : (t : Bool) (m n : Checked A) → Refuses P m → Refuses P n → Refuses P (cond t m n)
   cond-refuses true m n p q = p

@@ -8,9 +8,9 @@ pub data Checked (A : Type 0) : Type 0 where
   refuse : ℕ → Checked A
 
 -- a test: where it does not hold, the refusal k
-unfoldable pub guard : {A : Type 0} → Bool → ℕ → Checked A → Checked A
-guard true k rest = rest
-guard false k rest = refuse k
+unfoldable pub must : {A : Type 0} → Bool → ℕ → Checked A → Checked A
+must true k rest = rest
+must false k rest = refuse k
 
 -- on with what an earlier row of tests came to
 unfoldable pub onward : {A B : Type 0} → Checked A → (A → Checked B) → Checked B

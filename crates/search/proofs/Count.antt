@@ -5,33 +5,33 @@ use Prim.Native.Nat.{ℕ, zero, suc, _+_, _-_, _≤_}
 use native.Mathlib.Omega.{arith}
 use lib.Ieee.{Float}
 use Rattle.search.specs.declared.Bracket.{Bracket}
-use Rattle.search.specs.Said.{Try, guess, none, Ended, solved, closed, spent, lost}
+use Rattle.search.specs.Said.{Try, guess, noGuess, Ending, solved, closed, spent, lost}
 use Rattle.search.specs.Search.{firstGuess, narrowedBy, nextGuess, goOn, hunt, searchOf}
 use Rattle.search.proofs.Hunt.{pointAt, guessed-by}
 
-abbrev pub countOf : Ended → ℕ
-countOf (solved x n) = n
-countOf (closed b n) = n
-countOf (spent b n) = n
-countOf (lost n) = n
+abbrev pub guessesIn : Ending → ℕ
+guessesIn (solved x n) = n
+guessesIn (closed b n) = n
+guessesIn (spent b n) = n
+guessesIn (lost n) = n
 
 -- a search that is spent has made all its guesses, m
-abbrev All : ℕ → Ended → Type 0
+abbrev All : ℕ → Ending → Type 0
 All m (solved x n) = Unit
 All m (closed b n) = Unit
 All m (spent b n) = n ≡ m
 All m (lost n) = Unit
 
-abbrev Counted : (left n : ℕ) → Ended → Type 0
-Counted left n e = (n + 1 ≤ countOf e) × (countOf e ≤ n + 1 + left) × All (n + 1 + left) e
+abbrev Counted : (left n : ℕ) → Ending → Type 0
+Counted left n e = (n + 1 ≤ guessesIn e) × (guessesIn e ≤ n + 1 + left) × All (n + 1 + left) e
 
 -- an end at this guess
 at-once : (left n : ℕ) → (n + 1 ≤ n + 1) × (n + 1 ≤ n + 1 + left) × Unit {0}
 at-once left n = (omega arith, omega arith, tt)
 
-goOn-counted : (left n : ℕ) (again : Bracket → Float → Ended) → ((b : Bracket) (x : Float) → Counted left (n + 1) (again b x))
+goOn-counted : (left n : ℕ) (again : Bracket → Float → Ending) → ((b : Bracket) (x : Float) → Counted left (n + 1) (again b x))
     → (b : Bracket) (y : Try) → Counted (suc left) n (goOn again (n + 1) b y)
-goOn-counted left n again h b none = at-once (suc left) n
+goOn-counted left n again h b noGuess = at-once (suc left) n
 goOn-counted left n again h b (guess x) =
     let c = h b x in
     let same : n + 1 + 1 + left ≡ n + 1 + suc left = omega arith in
@@ -49,7 +49,7 @@ module _ (time : Float → Float) (t : Float) where
       (λ f. goOn-counted left n again (hunt-counted left (n + 1)) (narrowedBy b g t) (nextGuess b g t))
       (λ f. at-once (suc left) n)
 
-  pub search-counts : (limit : ℕ) (b : Bracket) → 1 ≤ limit → (1 ≤ countOf (searchOf time t limit b)) × (countOf (searchOf time t limit b) ≤ limit)
+  pub search-counts : (limit : ℕ) (b : Bracket) → 1 ≤ limit → (1 ≤ guessesIn (searchOf time t limit b)) × (guessesIn (searchOf time t limit b) ≤ limit)
   unfolding searchOf
   search-counts limit b l = let c = hunt-counted (limit - 1) 0 b (firstGuess b t) in (omega (arith, c .0), omega (arith, c .1))
 

@@ -11,8 +11,8 @@ use lib.Ieee.Fits.{add-fits}
 use Rattle.exact.specs.Numbers.{_⊖_, _⊗_, _⊘_, two, isFinite, isNear}
 use Rattle.search.specs.declared.Point.{Point}
 use Rattle.search.specs.declared.Bracket.{Bracket}
-use Rattle.search.specs.Said.{Try, guess, none, Ended, solved, closed, spent, lost}
-use Rattle.search.specs.Search.{inside, middleOf, firstGuess, narrowedBy, replaced, other, through, choose, nextGuess, guessed, goOn, hunt, searchOf}
+use Rattle.search.specs.Said.{Try, guess, noGuess, Ending, solved, closed, spent, lost}
+use Rattle.search.specs.Search.{inside, middleOf, firstGuess, narrowedBy, replaced, other, lineThrough, choose, nextGuess, guessed, goOn, hunt, searchOf}
 
 -- ---- one guess
 
@@ -20,11 +20,11 @@ use Rattle.search.specs.Search.{inside, middleOf, firstGuess, narrowedBy
 abbrev pub pointAt : (Float → Float) → Float → Point
 pointAt time x = record { x = x; time = time x }
 
-module _ (time : Float → Float) (t : Float) (n : ℕ) (b : Bracket) (x : Float) (onward : Bracket → Try → Ended) where
-  abbrev turned : Ended
+module _ (time : Float → Float) (t : Float) (n : ℕ) (b : Bracket) (x : Float) (onward : Bracket → Try → Ending) where
+  abbrev turned : Ending
   turned = onward (narrowedBy b (pointAt time x) t) (nextGuess b (pointAt time x) t)
 
-  pub guessed-by : (P : Ended → Type 0) → (isFinite (time x) ≡ true → isNear (time x) t ≡ true → P (solved x n)) → (isFinite (time x) ≡ true → P turned) → (isFinite (time x) ≡ false → P (lost n))
+  pub guessed-by : (P : Ending → Type 0) → (isFinite (time x) ≡ true → isNear (time x) t ≡ true → P (solved x n)) → (isFinite (time x) ≡ true → P turned) → (isFinite (time x) ≡ false → P (lost n))
       → P (guessed time t n b x onward)
   guessed-by P near on gone = go (isFinite (time x)) (isNear (time x) t) refl refl
     where
@@ -37,7 +37,7 @@ module _ (time : Float → Float) (t : Float) (n : ℕ) (b : Bracket) (x : Float
 
 -- P of the guess, if there is one
 abbrev OfGuess : (Float → Type 0) → Try → Type 0
-OfGuess P none = Unit
+OfGuess P noGuess = Unit
 OfGuess P (guess x) = P x
 
 abbrev Inside : Bracket → Float → Type 0
@@ -46,14 +46,14 @@ Inside b x = T (fits binary64 x) × (inside b x ≡ true)
 choose-inside : (b : Bracket) (e i m : Float) → T (fits binary64 e) → T (fits binary64 i) → T (fits binary64 m) → OfGuess (Inside b) (choose b e i m)
 choose-inside b e i m E I M = go (inside b e) (inside b i) (inside b m) refl refl refl
   where
-    go : (u v w : Bool) → inside b e ≡ u → inside b i ≡ v → inside b m ≡ w → OfGuess (Inside b) (cond u (guess e) (cond v (guess i) (cond w (guess m) none)))
+    go : (u v w : Bool) → inside b e ≡ u → inside b i ≡ v → inside b m ≡ w → OfGuess (Inside b) (cond u (guess e) (cond v (guess i) (cond w (guess m) noGuess)))
     go true v w p q r = (E, p)
     go false true w p q r = (I, q)
     go false false true p q r = (M, r)
     go false false false p q r = tt
 
 -- each of the three is a sum, and a sum fits
-through-fits : (g b : Point) (t : Float) → T (fits binary64 (through g b t))
+through-fits : (g b : Point) (t : Float) → T (fits binary64 (lineThrough g b t))
 through-fits g b t = add-fits binary64 (g .x) ((t ⊖ g .time) ⊘ (g .time ⊖ b .time) ⊗ (g .x ⊖ b .x))
 
 pub middle-fits : (b : Bracket) → T (fits binary64 (middleOf b))
@@ -63,13 +63,13 @@ next-inside : (b : Bracket) (g : Point) (t : Float) → OfGuess (Inside (narrowe
 unfolding nextGuess
 next-inside b g t =
     let new = narrowedBy b g t in
-    choose-inside new (through g (replaced b g t) t) (through g (other b g t) t) (middleOf new)
+    choose-inside new (lineThrough g (replaced b g t) t) (lineThrough g (other b g t) t) (middleOf new)
     (through-fits g (replaced b g t) t) (through-fits g (other b g t) t) (middle-fits new)
 
 -- ---- the end
 
 -- what holds at the end, with I of every bracket and the guess in it, and J of every bracket that a guess has narrowed
-abbrev pub Ends : (time : Float → Float) (t : Float) (I : Bracket → Float → Type 0) (J : Bracket → Type 0) → Ended → Type 0
+abbrev pub Ends : (time : Float → Float) (t : Float) (I : Bracket → Float → Type 0) (J : Bracket → Type 0) → Ending → Type 0
 Ends time t I J (solved x n) = (isFinite (time x) ≡ true) × (isNear (time x) t ≡ true) × ((b : Bracket) × I b x)
 Ends time t I J (closed b n) = J b
 Ends time t I J (spent b n) = J b
@@ -82,7 +82,7 @@ pub record Passed (time : Float → Float) (t : Float) (I : Bracket → Float �
   pub next : (b : Bracket) (x : Float) → J b → T (fits binary64 x) → inside b x ≡ true → I b x
 
 -- the bracket that a refusal names: nothing is left inside, or the guesses are spent
-abbrev pub Names : Ended → Bracket → Type 0
+abbrev pub Names : Ending → Bracket → Type 0
 Names e b = (n : ℕ) × ((e ≡ closed b n) ⊎ (e ≡ spent b n))
 
 module _ {time : Float → Float} {t : Float} {I : Bracket → Float → Type 0} {J : Bracket → Type 0} (p : Passed time t I J) where
@@ -94,12 +94,12 @@ module _ {time : Float → Float} {t : Float} {I : Bracket → Float → Type 0}
       go true e = p .lower b x i f e
       go false e = p .upper b x i f e
 
-  goOn-ends : (again : Bracket → Float → Ended) → ((b : Bracket) (x : Float) → I b x → Ends time t I J (again b x))
+  goOn-ends : (again : Bracket → Float → Ending) → ((b : Bracket) (x : Float) → I b x → Ends time t I J (again b x))
       → (n : ℕ) (b : Bracket) (y : Try) → J b → OfGuess (Inside b) y → Ends time t I J (goOn again n b y)
-  goOn-ends again h n b none j w = j
+  goOn-ends again h n b noGuess j w = j
   goOn-ends again h n b (guess x) j w = h b x (p .next b x j (w .0) (w .1))
 
-  turn-ends : (n : ℕ) (b : Bracket) (x : Float) (onward : Bracket → Try → Ended) → I b x → (J (narrowedBy b (pointAt time x) t) → Ends time t I J (turned time t n b x onward))
+  turn-ends : (n : ℕ) (b : Bracket) (x : Float) (onward : Bracket → Try → Ending) → I b x → (J (narrowedBy b (pointAt time x) t) → Ends time t I J (turned time t n b x onward))
       → Ends time t I J (guessed time t n b x onward)
   turn-ends n b x onward i on = guessed-by time t n b x onward (Ends time t I J) (λ f e. (f, e, (b, i))) (λ f. on (narrowed-holds b x i f)) (λ f. (x, f, (b, i)))
 

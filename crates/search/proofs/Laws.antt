@@ -9,7 +9,7 @@ use Prim.Native.Nat.{ℕ}
 use lib.Dec.{T}
 use lib.Ieee.{Float, binary64, neg, fits, lt, le}
 use lib.Ieee.Bits.{is-true}
-use Rattle.exact.specs.Numbers.{nought, isFinite, Number, isNear, minus}
+use Rattle.exact.specs.Numbers.{nought, isFinite, Number, isNear, isMinus}
 use Rattle.exact.proofs.Basics.{both}
 use Rattle.exact.proofs.Compare.{lt-once, le-of-lt, le-refl, le-trans, finite-between}
 use Rattle.exact.proofs.Zero.{nought-number}
@@ -129,9 +129,9 @@ starts t b w l h m = record { lo-number = l; hi-number = h; first-in = go (withi
     go false e = in-between b (middleOf b) l h (middle-fits b) m
 
 -- from 0 to X
-pub forwards : (t : Float) (b : Bracket) → T (fits binary64 t) → Number binary64 (b .hi .x) → minus (b .hi .x) ≡ false → b .lo .x ≡ nought → Starts t b
+pub forwards : (t : Float) (b : Bracket) → T (fits binary64 t) → Number binary64 (b .hi .x) → isMinus (b .hi .x) ≡ false → b .lo .x ≡ nought → Starts t b
 forwards t b w h plus e = starts t b w (rw e nought-number) h (rw e (middle-forwards (b .hi .x) h plus))
 
 -- from -X to 0
-pub backwards : (t : Float) (b : Bracket) (X : Float) → T (fits binary64 t) → Number binary64 X → minus X ≡ false → b .lo .x ≡ neg X → b .hi .x ≡ nought → Starts t b
+pub backwards : (t : Float) (b : Bracket) (X : Float) → T (fits binary64 t) → Number binary64 X → isMinus X ≡ false → b .lo .x ≡ neg X → b .hi .x ≡ nought → Starts t b
 backwards t b X w h plus e z = starts t b w (rw e (neg-number binary64 X h .0)) (rw z nought-number) (rw (e, z) (middle-backwards X h plus))

@@ -7,12 +7,12 @@ use Rattle.search.specs.declared.Point.{Point}
 use Rattle.search.specs.declared.Bracket.{Bracket}
 use Rattle.search.specs.declared.Step.{Step}
 use Rattle.search.specs.declared.Step.the-variants as step
-use Rattle.search.specs.Said.{Try, guess, none, said}
+use Rattle.search.specs.Said.{Try, guess, noGuess, said}
 use Rattle.search.specs.Search.{nextGuess}
 
 abbrev unsaid : Try → Step
 unsaid (guess x) = step.Guess x
-unsaid none = step.Closed
+unsaid noGuess = step.Closed
 
 unsaid-is : (a : Step) → unsaid (said a) ≡ a
 unsaid-is (step.Guess x) = refl

@@ -6,7 +6,7 @@ use native.Mathlib.Omega.{arith}
 use lib.Ieee.{Float}
 use Rattle.exact.specs.Numbers.{isFinite, isNear}
 use Rattle.search.specs.declared.Bracket.{Bracket}
-use Rattle.search.specs.Said.{guess, none, solved, closed, spent, lost}
+use Rattle.search.specs.Said.{guess, noGuess, solved, closed, spent, lost}
 use Rattle.search.specs.Search.{narrowedBy, nextGuess, hunt}
 use Rattle.search.proofs.Hunt.{pointAt}
 
@@ -27,7 +27,7 @@ module _ (time : Float → Float) (t : Float) where
     unfolding hunt
     turn-spent left z = rw (z, e, f) refl
 
-    pub turn-closed : (left : ℕ) → 0 < left → nextGuess b (pointAt time x) t ≡ none → hunt time t left n b x ≡ closed (narrowedBy b (pointAt time x) t) (n + 1)
+    pub turn-closed : (left : ℕ) → 0 < left → nextGuess b (pointAt time x) t ≡ noGuess → hunt time t left n b x ≡ closed (narrowedBy b (pointAt time x) t) (n + 1)
     unfolding hunt
     turn-closed zero l g = absurd (omega (arith, l))
     turn-closed (suc left) l g = rw (e, f, g) refl

@@ -5,7 +5,7 @@ use lib.Ieee.{Float, lt, le}
 use Rattle.exact.specs.Numbers.{_⊕_, _⊖_, _⊗_, _⊘_, isFinite, isNear, middle}
 use Rattle.search.specs.declared.Point.{Point}
 use Rattle.search.specs.declared.Bracket.{Bracket}
-use Rattle.search.specs.Said.{Try, guess, none, Ended, solved, closed, spent, lost}
+use Rattle.search.specs.Said.{Try, guess, noGuess, Ending, solved, closed, spent, lost}
 
 -- in the bracket, "ends included"
 abbrev pub within : Bracket → Float → Bool
@@ -35,20 +35,20 @@ abbrev pub other : Bracket → Point → Float → Point
 other b g t = cond (lt (g .time) t) (b .hi) (b .lo)
 
 -- "x + ((t - T)/(T - Tb))*(x - b)"
-abbrev pub through : Point → Point → Float → Float
-through g b t = g .x ⊕ ((t ⊖ g .time) ⊘ (g .time ⊖ b .time)) ⊗ (g .x ⊖ b .x)
+abbrev pub lineThrough : Point → Point → Float → Float
+lineThrough g b t = g .x ⊕ ((t ⊖ g .time) ⊘ (g .time ⊖ b .time)) ⊗ (g .x ⊖ b .x)
 
 -- the first of three that lies strictly inside
 abbrev pub choose : Bracket → Float → Float → Float → Try
-choose new e i m = cond (inside new e) (guess e) (cond (inside new i) (guess i) (cond (inside new m) (guess m) none))
+choose new e i m = cond (inside new e) (guess e) (cond (inside new i) (guess i) (cond (inside new m) (guess m) noGuess))
 
 -- 5. the extrapolation by the bound that step 3 replaced; "if it isn't strictly inside the new bracket, interpolate by the same formula
 -- with the other bound; failing that, the middle; failing that, refusal 9"
 unfoldable pub nextGuess : Bracket → Point → Float → Try
-nextGuess b g t = let new = narrowedBy b g t in choose new (through g (replaced b g t) t) (through g (other b g t) t) (middleOf new)
+nextGuess b g t = let new = narrowedBy b g t in choose new (lineThrough g (replaced b g t) t) (lineThrough g (other b g t) t) (middleOf new)
 
 -- one guess x, the n-th, in the bracket b: 1. "T not finite: refusal 6"; 2. "|T - t| ≤ 2^-36"; else on with the new bracket and step 5
-abbrev pub guessed : (time : Float → Float) (t : Float) (n : ℕ) (b : Bracket) (x : Float) → (Bracket → Try → Ended) → Ended
+abbrev pub guessed : (time : Float → Float) (t : Float) (n : ℕ) (b : Bracket) (x : Float) → (Bracket → Try → Ending) → Ending
 guessed time t n b x onward =
     let g : Point = record { x = x; time = time x } in
     cond (isFinite (time x))
@@ -56,15 +56,15 @@ guessed time t n b x onward =
     (lost n)
 
 -- 5. on with the next guess, `again`; "failing that, refusal 9"
-abbrev pub goOn : (Bracket → Float → Ended) → ℕ → Bracket → Try → Ended
-goOn again n new none = closed new n
+abbrev pub goOn : (Bracket → Float → Ending) → ℕ → Bracket → Try → Ending
+goOn again n new noGuess = closed new n
 goOn again n new (guess x) = again new x
 
 -- the guess x after n guesses, with `left` more allowed after it: 4. "Count equal to limit: refusal 10", then 5.
-unfoldable pub hunt : (time : Float → Float) (t : Float) (left : ℕ) (n : ℕ) → Bracket → Float → Ended
+unfoldable pub hunt : (time : Float → Float) (t : Float) (left : ℕ) (n : ℕ) → Bracket → Float → Ending
 hunt time t zero n b x = guessed time t (n + 1) b x (λ new next. spent new (n + 1))
 hunt time t (suc left) n b x = guessed time t (n + 1) b x (goOn (hunt time t left (n + 1)) (n + 1))
 
 -- the whole search, with at most `limit` guesses
-unfoldable pub searchOf : (time : Float → Float) (t : Float) (limit : ℕ) → Bracket → Ended
+unfoldable pub searchOf : (time : Float → Float) (t : Float) (limit : ℕ) → Bracket → Ending
 searchOf time t limit b = hunt time t (limit - 1) 0 b (firstGuess b t)

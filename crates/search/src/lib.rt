@@ -5,7 +5,7 @@
 // functions here, and its contract cites `searchOf` of `specs/Search.antt`. Every function is
 // proved and total, NaN and infinities included, and the crate assumes nothing.
 ghost use mathlib.Core.Path.{_≡_};
-ghost use Rattle.search.specs.Search.{within, firstGuess, narrowedBy, through, inside, middleOf, choose, nextGuess};
+ghost use Rattle.search.specs.Search.{within, firstGuess, narrowedBy, lineThrough, inside, middleOf, choose, nextGuess};
 ghost use Rattle.search.specs.Said.{said};
 
 // A guess or an end, with its time.
@@ -95,7 +95,7 @@ fn chosen(new: Bracket, extrapolated: f64, interpolated: f64) -> Step
 
 // Where the line through the guess and an end of a bracket reaches the time t.
 fn line(guess: Point, end: Point, t: f64) -> f64
-    ensures { λ r. ⌜ r ≡ through guess end t ⌝ }
+    ensures { λ r. ⌜ r ≡ lineThrough guess end t ⌝ }
 {
     guess.x + ((t - guess.time) / (guess.time - end.time)) * (guess.x - end.x)
 }

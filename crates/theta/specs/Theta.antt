@@ -4,7 +4,7 @@ use Rattle.exact.specs.Numbers.{_⊕_, _⊖_, _⊗_, _⊘_, numberOf, one, two}
 use Rattle.conic.specs.declared.State.{State}
 use Rattle.conic.specs.declared.Vector.{Vector}
 use Rattle.conic.specs.declared.Scaled.{Scaled}
-use Rattle.rows.specs.Rows.{Checked, guard, onward}
+use Rattle.rows.specs.Rows.{Checked, must, onward}
 use Rattle.conic.specs.Said.{Said, withState}
 use Rattle.universal.specs.Functions.{functionsAt}
 use Rattle.conic.specs.Unfolding.{arrivalOf}
@@ -27,7 +27,7 @@ reachedState o k sh ch =
     let ratio = p ⊘ den in
     let u2 = two ⊗ (ratio ⊘ p) ⊗ sh ⊗ sh in
     let u1 = two ⊗ ratio ⊗ sh ⊗ (ch ⊖ s ⊗ sh ⊘ k) ⊘ k in
-    guard (le leastDen den) 12
+    must (le leastDen den) 12
     (arrivalOf o u1 u2 ratio)
 
 -- "From the functions with alpha 1 and x = a/2: sh = U1, ch = U0. k = root(p)"

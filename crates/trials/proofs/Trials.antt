@@ -5,7 +5,7 @@ use Rattle.exact.specs.Numbers.{magnitude, isNear, steps}
 use Rattle.root.specs.Whole.{wholeRoot}
 use Rattle.root.specs.Root.{radicand, nearestRoot, rootOf}
 use Rattle.search.specs.Search.{firstGuess, narrowedBy, nextGuess, hunt, searchOf}
-use Rattle.rows.specs.Rows.{guard, onward}
+use Rattle.rows.specs.Rows.{must, onward}
 use Rattle.universal.specs.Series.{coefficients, workedFrom, worked}
 use Rattle.universal.specs.Functions.{functionsAt}
 use Rattle.conic.specs.TimeAndRatio.{timeAt}
@@ -15,5 +15,5 @@ use Rattle.kepler.specs.Kepler.{arrivedAt, foundIn, keplerOf}
 use Rattle.trials.specs.Table.{AllHold, table}
 
 pub all-hold : AllHold table
-unfolding round add sub mul div neg lt le eq ne ofBits magnitude isNear steps wholeRoot radicand nearestRoot rootOf firstGuess narrowedBy nextGuess hunt searchOf guard onward coefficients workedFrom worked functionsAt timeAt unfolded arrivalOf arrivalAt inputsTested rooted radiusOf unitOf testedBy scaledBy scaledOf farEndOf bracketedBy startOf entryOf arrivedAt foundIn keplerOf
+unfolding round add sub mul div neg lt le eq ne ofBits magnitude isNear steps wholeRoot radicand nearestRoot rootOf firstGuess narrowedBy nextGuess hunt searchOf must onward coefficients workedFrom worked functionsAt timeAt unfolded arrivalOf arrivalAt inputsTested rooted radiusOf unitOf testedBy scaledBy scaledOf farEndOf bracketedBy startOf entryOf arrivedAt foundIn keplerOf
 all-hold = (refl, (refl, (refl, (refl, (refl, (refl, (refl, (refl, (refl, (refl, (refl, (refl, (refl, (refl, (refl, tt)))))))))))))))

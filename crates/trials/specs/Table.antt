@@ -22,7 +22,7 @@ use Rattle.kepler.specs.Kepler.{keplerOf}
 pub data Trial : Type 0 where
   rootGives : Float → root.Said → Trial
   -- alpha and the far end X, forwards
-  startsWith : Problem → (alpha X : Float) → Trial
+  startsAt : Problem → (alpha X : Float) → Trial
   -- at x: U1, U2, R and the position
   unfoldsAt : Problem → (x : Float) → (u1 u2 ratio : Float) → Vector → Trial
   keplerGives : Problem → Said → Trial
@@ -38,7 +38,7 @@ unfoldedAt x e =
 
 abbrev pub Holds : Trial → Type 0
 Holds (rootGives x s) = rootOf x ≡ s
-Holds (startsWith p alpha X) = onward (entryOf p) (λ e. pass (alphaAndFarEnd e)) ≡ pass (alpha, X)
+Holds (startsAt p alpha X) = onward (entryOf p) (λ e. pass (alphaAndFarEnd e)) ≡ pass (alpha, X)
 Holds (unfoldsAt p x u1 u2 ratio r) = onward (entryOf p) (λ e. pass (unfoldedAt x e)) ≡ pass (u1, u2, ratio, r)
 Holds (keplerGives p s) = keplerOf p ≡ s
 
@@ -75,7 +75,7 @@ table =
     ∷ rootGives (numberOf 0x8000_0000_0000_0000) (root.root (numberOf 0x8000_0000_0000_0000))
     ∷ rootGives (numberOf 0xbff0_0000_0000_0000) (root.refused 13)
     -- v (1,1,0): alpha 0, X 64. At x = 4: U1 4, U2 8, R 13, position (5,12,0)
-    ∷ startsWith (problem diagonal nought 20) nought sixtyFour
+    ∷ startsAt (problem diagonal nought 20) nought sixtyFour
     ∷ unfoldsAt (problem diagonal nought 20) four four eight (numberOf 0x402a_0000_0000_0000) (vector (numberOf 0x4014_0000_0000_0000) (numberOf 0x4028_0000_0000_0000) nought)
     -- v (0,1,0), dt 0: solved, x 0, count 1, the state given
     ∷ keplerGives (problem (across one) nought 20) (theStateGiven (across one))

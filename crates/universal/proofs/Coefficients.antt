@@ -14,7 +14,7 @@ use lib.Ieee.{Float, nan, binary64, ofBits}
 use lib.Ieee.Fits.{round-fits}
 use lib.Ieee.Bits.{ofBits-fits}
 use lib.Ieee.Positive.{first-pos}
-use Rattle.exact.specs.Numbers.{numberOf, one, isFinite, Number, minus, steps, distance, inSteps}
+use Rattle.exact.specs.Numbers.{numberOf, one, isFinite, Number, isMinus, steps, distance, inSteps}
 use Rattle.exact.proofs.Steps.{steps-lt, same-number}
 use Rattle.exact.proofs.Rounding.{rounded, nothing-nearer, rounded-le, round-steps}
 use Rattle.exact.proofs.OneStep.{step, step-number, step-steps}
@@ -57,7 +57,7 @@ module _ (n : ℕ) where
   unfolding inSteps
   at-most-one = rounded-le binary64 1 (factorial n) one (factorial-pos n) (one-number .0) (le-trans (le-of-eq (sym one-is)) (mul-le-mul-left (steps binary64 one) (factorial-pos n)))
 
-  inverse-is : (steps binary64 (nearestInverse n) ≡ rounded binary64 1 (factorial n)) × (minus (nearestInverse n) ≡ false) × T (isFinite (nearestInverse n))
+  inverse-is : (steps binary64 (nearestInverse n) ≡ rounded binary64 1 (factorial n)) × (isMinus (nearestInverse n) ≡ false) × T (isFinite (nearestInverse n))
   inverse-is = round-steps binary64 false 1 (factorial n) (lt-of-le-of-lt at-most-one (steps-lt binary64 one (one-number .0)))
 
   inverse-number : Number binary64 (nearestInverse n)
@@ -133,7 +133,7 @@ nearer-than-zero n small =
 -- ---- the theorem, for one n
 
 module _ (n : ℕ) (small : n ≤ 25) where
-  plus : minus (nearestInverse n) ≡ false
+  plus : isMinus (nearestInverse n) ≡ false
   plus = inverse-is n .1
 
   some : 0 < steps binary64 (nearestInverse n)
@@ -143,16 +143,16 @@ module _ (n : ℕ) (small : n ≤ 25) where
       not-nothing a l h = omega arith
 
   -- what is minus is farther away than 0
-  minus-off : (y : Float) → minus y ≡ true → off n (nearestInverse n) < off n y
+  minus-off : (y : Float) → isMinus y ≡ true → off n (nearestInverse n) < off n y
   unfolding off
   minus-off y m = rw (plus, m) (lt-of-lt-of-le (nearer-than-zero n small) (le-add-left (inSteps 0) (sized n y)))
 
-  nearest : (y : Float) → Number binary64 y → (s : Bool) → minus y ≡ s → off n (nearestInverse n) ≤ off n y
+  nearest : (y : Float) → Number binary64 y → (s : Bool) → isMinus y ≡ s → off n (nearestInverse n) ≤ off n y
   unfolding off
   nearest y h true m = le-of-lt (minus-off y m)
   nearest y h false m = rw (plus, m) (no-size-nearer n y h)
 
-  alone : (y : Float) → Number binary64 y → off n y ≤ off n (nearestInverse n) → (s : Bool) → minus y ≡ s → y ≡ nearestInverse n
+  alone : (y : Float) → Number binary64 y → off n y ≤ off n (nearestInverse n) → (s : Bool) → isMinus y ≡ s → y ≡ nearestInverse n
   unfolding off
   alone y h l true m = absurd (not-le-of-lt (minus-off y m) l)
   alone y h l false m = same-number binary64 y (nearestInverse n) h (inverse-number n) (m ∙ sym plus) (as-near n y h (rw (plus, m) at l))
@@ -161,8 +161,8 @@ module _ (n : ℕ) (small : n ≤ 25) where
   inverse-nearest = record {
     number = inverse-number n;
     positive = positive-is (nearestInverse n) (inverse-number n) .1 (plus, some);
-    nearest = λ y h. nearest y h (minus y) refl;
-    alone = λ y h l. alone y h l (minus y) refl;
+    nearest = λ y h. nearest y h (isMinus y) refl;
+    alone = λ y h l. alone y h l (isMinus y) refl;
   }
 
 -- ---- the tables

@@ -6,7 +6,7 @@ use mathlib.Core.List.{List, [], _∷_}
 use lib.ListN.{getD}
 use lib.Dec.{T}
 use lib.Ieee.{Float, nan, binary64, round, neg, lt}
-use Rattle.exact.specs.Numbers.{_⊕_, _⊗_, nought, Number, minus, steps, distance, inSteps}
+use Rattle.exact.specs.Numbers.{_⊕_, _⊗_, nought, Number, isMinus, steps, distance, inSteps}
 
 -- n!
 abbrev pub factorial : ℕ → ℕ
@@ -43,7 +43,7 @@ sized n y = steps binary64 y * factorial n
 
 -- |y - 1/n!| so; 1/n! itself is then 1 in steps
 unfoldable pub off : (n : ℕ) (y : Float) → ℕ
-off n y = cond (minus y) (sized n y + inSteps 0) (distance (sized n y) (inSteps 0))
+off n y = cond (isMinus y) (sized n y + inSteps 0) (distance (sized n y) (inSteps 0))
 
 -- r is a finite number above zero, none is nearer to 1/n!, and none but r is as near
 pub record IsNearestInverse (n : ℕ) (r : Float) : Type 0 where

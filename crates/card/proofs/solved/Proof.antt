@@ -1,7 +1,7 @@
 -- `card::solved` meets its contract: the spare, the entry's refusal, or what x comes to.
 use mathlib.Core.Path.{_≡_, refl, ap, _∙_}
 use borrow.Author.Tests.{ne-eqb, eq-eqb}
-use Rattle.rows.specs.Rows.{guard, onward}
+use Rattle.rows.specs.Rows.{must, onward}
 use Rattle.entry.specs.Said.{passedStart}
 use Rattle.card.specs.Said.{rejected, refusalIn}
 use Rattle.card.specs.Verdict.{atX, solvedCard}
@@ -10,12 +10,12 @@ use Rattle.card.proofs.solved.Statement.{statement}
 use Rattle.card.proofs.solved.Tie as tie
 
 returns : tie.Need-returns
-unfolding guard solvedCard
+unfolding must solvedCard
 returns c = rw (c .number .ensures, ← c .before .before .half .ensures, ne-eqb (c .before .before .half .result) 0 (c .before .if1 .taken)) refl
 
 -- past the spare, the row as it was found
 no-spare : (c : tie.After-entry) → solvedCard (c .before .before .before .before .before .args .body .now) ≡ onward (passedStart (c .entry .result)) (λ e. atX (c .before .before .before .before .before .args .body .now) (e .0) (e .1))
-unfolding guard solvedCard
+unfolding must solvedCard
 no-spare c = rw (← c .before .before .before .half .ensures, eq-eqb (c .before .before .before .half .result) 0 (c .before .before .if1 .left), ← c .before .problem .ensures, ← c .entry .ensures) refl
 
 returns-2 : tie.Need-returns-2

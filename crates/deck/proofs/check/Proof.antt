@@ -1,6 +1,6 @@
 -- `deck::check` meets its contract: the contents' refusal, 39, or the verdicts and the tally; where it refuses, the list is as it was lent.
 use mathlib.Core.Path.{sym, ap, _∙_}
-use Rattle.deck.specs.Said.{numberOf, listed}
+use Rattle.deck.specs.Said.{reasonNumber, listed}
 use Rattle.deck.proofs.Opened.{Opened, opened, contents-refused, list-too-short, accepted}
 use borrow.Author.Needs.{needs}
 use Rattle.deck.proofs.check.Statement.{statement}
@@ -17,7 +17,7 @@ judged-requires : tie.Need-judged-requires
 judged-requires c κs = let o = passed (c .before .before .before) in ((o .most, o .inside, c .before .if1 .left), o .passes)
 
 returns-2 : tie.Need-returns-2
-returns-2 c = contents-refused (c .before .before .before .before .before .before .args .deck .now) (c .before .before .before .before .before .before .args .verdicts .now) (numberOf (c .before .why .given .0 .0)) (sym (c .before .before .before .tested .ensures) ∙ ap listed (c .before .why .given .1))
+returns-2 c = contents-refused (c .before .before .before .before .before .before .args .deck .now) (c .before .before .before .before .before .before .args .verdicts .now) (reasonNumber (c .before .why .given .0 .0)) (sym (c .before .before .before .tested .ensures) ∙ ap listed (c .before .why .given .1))
 
 returns-3 : tie.Need-returns-3
 returns-3 c = let is = accepted (c .before .before .before .before .before .before .before .before .before .before .before .args .deck .now) (c .before .before .before .before .before .before .count .given .0 .0) (passed (c .before .before .before .before .before .before)) (c .before .before .before .before .before .before .before .before .before .before .before .args .verdicts .now) (c .before .before .before .before .if1 .left) in (c .before .before .judged .ensures .0 ∙ is .0, c .before .before .judged .ensures .1 ∙ is .1)

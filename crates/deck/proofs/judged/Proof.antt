@@ -8,8 +8,8 @@ use lib.ListN.{length}
 use Rattle.rows.specs.Rows.{pass}
 use Rattle.card.specs.Said.{said}
 use Rattle.deck.specs.declared.tally.Running.{Running}
-use Rattle.deck.specs.Said.{numberOf, entered}
-use Rattle.deck.specs.Contents.{entryAt, entryOf}
+use Rattle.deck.specs.Said.{reasonNumber, entered}
+use Rattle.deck.specs.Contents.{entryAt, entryIn}
 use Rattle.deck.proofs.Cards.{entry-inside}
 use Rattle.deck.proofs.Going.{Going, some-left, start, never-refused, turn, answer-is, list-is}
 use Rattle.deck.proofs.judged.Statement.{statement}
@@ -31,10 +31,10 @@ same-length : tie.Need-same-length Inv-loop μ-loop
 same-length c = c .before .before .before .before .before .loop .inv .as-long
 
 returns : tie.Need-returns Inv-loop μ-loop
-returns c = absurd (never-refused (c .before .before .before .before .before .loop .inv) (numberOf (c .before .why .given .0 .0)) (omega arith) (sym (c .before .before .before .entry-at .ensures) ∙ ap entered (c .before .why .given .1)))
+returns c = absurd (never-refused (c .before .before .before .before .before .loop .inv) (reasonNumber (c .before .why .given .0 .0)) (omega arith) (sym (c .before .before .before .entry-at .ensures) ∙ ap entered (c .before .why .given .1)))
 
 -- the entry passed, its body is inside, and the list has a place for its verdict
-passed : (c : tie.After-size Inv-loop μ-loop) → entryOf (c .before .before .before .before .before .before .before .before .before .before .args .deck .now) (c .before .before .before .before .before .before .loop .i) (c .before .before .before .before .before .before .loop .at) ≡ pass (c .before .before .kind .given .0 .0)
+passed : (c : tie.After-size Inv-loop μ-loop) → entryIn (c .before .before .before .before .before .before .before .before .before .before .args .deck .now) (c .before .before .before .before .before .before .loop .i) (c .before .before .before .before .before .before .loop .at) ≡ pass (c .before .before .kind .given .0 .0)
 passed c = sym (c .before .before .before .before .entry-at .ensures) ∙ ap entered (c .before .before .kind .given .1)
 
 room : (c : tie.After-size Inv-loop μ-loop) → c .before .before .before .before .before .before .loop .at + c .size .result ≤ length (c .before .before .before .before .before .before .before .before .before .before .args .deck .now)

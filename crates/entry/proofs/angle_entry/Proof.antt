@@ -3,7 +3,7 @@ use mathlib.Core.Path.{_≡_, refl, sym, ap, _∙_}
 use borrow.Author.Needs.{needs}
 use borrow.Author.Tests.{not-true, not-false}
 use lib.Ieee.{le}
-use Rattle.rows.specs.Rows.{pass, guard, onward}
+use Rattle.rows.specs.Rows.{pass, must, onward}
 use Rattle.entry.specs.Said.{passedInputs}
 use Rattle.entry.specs.Entry.{inputsTested, largestAngle, angleEntryOf}
 use Rattle.entry.proofs.angle_entry.Statement.{statement}
@@ -18,11 +18,11 @@ good : (c : tie.After-enum-told) → inputsTested (c .before .before .before .ar
 good c = sym (c .before .before .first-tests .ensures) ∙ ap passedInputs (c .enum-told .given .1)
 
 returns-2 : tie.Need-returns-2
-unfolding guard onward angleEntryOf
+unfolding must onward angleEntryOf
 returns-2 c = rw (good (c .before .before), ← c .before .absolute .ensures, not-true (le (c .before .absolute .result) largestAngle) (c .if1 .taken)) refl
 
 returns-3 : tie.Need-returns-3
-unfolding guard onward angleEntryOf
+unfolding must onward angleEntryOf
 returns-3 c = c .scale .ensures ∙ sym (rw (good (c .before .before .before), ← c .before .before .absolute .ensures, not-false (le (c .before .before .absolute .result) largestAngle) (c .before .if1 .left)) refl)
 
 pub angle-entry-spec : {M : Type 1} → statement M

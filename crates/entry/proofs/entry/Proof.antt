@@ -4,7 +4,7 @@ use mathlib.Core.Bool.{_&&_}
 use borrow.Author.Needs.{needs}
 use borrow.Author.Tests.{not-true, not-false}
 use lib.Dec.{leb}
-use Rattle.rows.specs.Rows.{pass, guard, onward}
+use Rattle.rows.specs.Rows.{pass, must, onward}
 use Rattle.entry.specs.Said.{passedInputs, passedScaled}
 use Rattle.entry.specs.Entry.{inputsTested, entryOf}
 use Rattle.entry.proofs.entry.Statement.{statement}
@@ -19,17 +19,17 @@ good : (c : tie.After-enum-told) → inputsTested (c .before .before .before .be
 good c = sym (c .before .before .first-tests .ensures) ∙ ap passedInputs (c .enum-told .given .1)
 
 returns-2 : tie.Need-returns-2
-unfolding guard onward entryOf
+unfolding must onward entryOf
 returns-2 c = rw (good (c .before), not-true (leb 1 (c .before .before .before .before .before .before .args .p .limit) && leb (c .before .before .before .before .before .before .args .p .limit) 100) (c .if1 .taken)) refl
 
 returns-3 : tie.Need-returns-3
-unfolding guard onward entryOf
+unfolding must onward entryOf
 returns-3 c =
     c .started .ensures
     ∙ sym (rw (good (c .before .before .before .before .before .before), not-false (leb 1 (c .before .before .before .before .before .before .before .before .before .before .before .args .p .limit) && leb (c .before .before .before .before .before .before .before .before .before .before .before .args .p .limit) 100) (c .before .before .before .before .before .if1 .left), sym (c .before .before .before .before .scale .ensures) ∙ ap passedScaled (c .before .before .o .given .1)) refl)
 
 returns-4 : tie.Need-returns-4
-unfolding guard onward entryOf
+unfolding must onward entryOf
 returns-4 c = rw (good (c .before .before .before .before .before), not-false (leb 1 (c .before .before .before .before .before .before .before .before .before .before .args .p .limit) && leb (c .before .before .before .before .before .before .before .before .before .before .args .p .limit) 100) (c .before .before .before .before .if1 .left), sym (c .before .before .before .scale .ensures) ∙ ap passedScaled (c .before .why .given .1)) refl
 
 pub entry-spec : {M : Type 1} → statement M

@@ -5,13 +5,13 @@ use borrow.Author.Needs.{needs}
 use borrow.Author.Tests.{not-true, not-false}
 use lib.Ieee.{lt}
 use Rattle.exact.specs.Numbers.{nought}
-use Rattle.rows.specs.Rows.{guard}
+use Rattle.rows.specs.Rows.{must}
 use Rattle.entry.specs.Entry.{givenFinite, inputsTested}
 use Rattle.entry.proofs.first_tests.Statement.{statement}
 use Rattle.entry.proofs.first_tests.Tie as tie
 
 returns : tie.Need-returns
-unfolding guard inputsTested
+unfolding must inputsTested
 returns c = rw (sym (c .before .given .ensures) ∙ not-true (c .before .given .result) (c .if1 .taken)) refl
 
 -- past the first test every number is finite
@@ -19,11 +19,11 @@ good : (c : tie.Else1) → givenFinite (c .before .before .args .mu) (c .before 
 good c = sym (c .before .given .ensures) ∙ not-false (c .before .given .result) (c .if1 .left)
 
 returns-2 : tie.Need-returns-2
-unfolding guard inputsTested
+unfolding must inputsTested
 returns-2 c = rw (good (c .before), not-true (lt nought (c .before .before .before .args .mu)) (c .if2 .taken)) refl
 
 returns-3 : tie.Need-returns-3
-unfolding guard inputsTested
+unfolding must inputsTested
 returns-3 c = rw (good (c .before), not-false (lt nought (c .before .before .before .args .mu)) (c .if2 .left)) refl
 
 pub first-tests-spec : {M : Type 1} → statement M

@@ -3,14 +3,14 @@ use mathlib.Core.Path.{_≡_, refl, sym, _∙_}
 use mathlib.Core.Bool.{true}
 use borrow.Author.Needs.{needs}
 use borrow.Author.Tests.{not-true, not-false}
-use Rattle.rows.specs.Rows.{pass, guard, onward}
+use Rattle.rows.specs.Rows.{pass, must, onward}
 use Rattle.entry.specs.Entry.{isUsable, rooted, radiusOf}
 use Rattle.entry.proofs.Rooted.{root-given, root-refused}
 use Rattle.entry.proofs.radius.Statement.{statement}
 use Rattle.entry.proofs.radius.Tie as tie
 
 returns : tie.Need-returns
-unfolding guard radiusOf
+unfolding must radiusOf
 returns c = rw (← c .before .before .product .ensures, sym (c .before .usable .ensures) ∙ not-true (c .before .usable .result) (c .if1 .taken)) refl
 
 -- past the first test r·r is usable
@@ -18,7 +18,7 @@ good : (c : tie.Else1) → isUsable (c .before .before .product .result) ≡ tru
 good c = sym (c .before .usable .ensures) ∙ not-false (c .before .usable .result) (c .if1 .left)
 
 returns-2 : tie.Need-returns-2
-unfolding guard onward radiusOf
+unfolding must onward radiusOf
 returns-2 c =
     rw (
       ← c .before .before .before .before .before .product .ensures,
@@ -34,7 +34,7 @@ given c =
     root-given square (c .before .before .r0 .given .0 .0) (c .before .before .before .before .root .result) (c .before .before .before .before .root .ensures) (c .before .before .r0 .given .1)
 
 returns-3 : tie.Need-returns-3
-unfolding guard onward radiusOf
+unfolding must onward radiusOf
 returns-3 c =
     rw (
       ← c .before .before .before .before .before .before .before .before .product .ensures,
@@ -45,7 +45,7 @@ returns-3 c =
     refl
 
 returns-4 : tie.Need-returns-4
-unfolding guard onward radiusOf
+unfolding must onward radiusOf
 returns-4 c =
     rw (
       ← c .before .before .before .before .before .before .before .before .product .ensures,

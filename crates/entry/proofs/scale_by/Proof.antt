@@ -2,22 +2,22 @@
 use mathlib.Core.Path.{_≡_, refl, sym, ap, _∙_}
 use borrow.Author.Needs.{needs}
 use borrow.Author.Tests.{not-true, not-false}
-use Rattle.rows.specs.Rows.{guard}
-use Rattle.conic.specs.Vectors.{allFinite, times}
+use Rattle.rows.specs.Rows.{must}
+use Rattle.conic.specs.Vectors.{allFinite, multiple}
 use Rattle.entry.specs.Entry.{scaledBy}
 use Rattle.entry.proofs.scale_by.Statement.{statement}
 use Rattle.entry.proofs.scale_by.Tie as tie
 
 -- w is finite as the test found it
-as-found : (c : tie.After-all-finite) → allFinite (times (c .before .before .before .before .before .args .f1) (c .before .before .before .before .before .args .v)) ≡ c .all-finite .result
+as-found : (c : tie.After-all-finite) → allFinite (multiple (c .before .before .before .before .before .args .f1) (c .before .before .before .before .before .args .v)) ≡ c .all-finite .result
 as-found c = sym (c .all-finite .ensures ∙ ap allFinite (c .before .before .before .scaled .ensures))
 
 returns : tie.Need-returns
-unfolding guard scaledBy
+unfolding must scaledBy
 returns c = rw (as-found (c .before) ∙ not-true (c .before .all-finite .result) (c .if1 .taken)) refl
 
 returns-2 : tie.Need-returns-2
-unfolding guard scaledBy
+unfolding must scaledBy
 returns-2 c =
     c .tested .ensures
     ∙ rw (

@@ -4,7 +4,7 @@ use mathlib.Core.Bool.{Bool, _&&_}
 use borrow.Author.Needs.{needs}
 use borrow.Author.Tests.{not-true, not-false}
 use Rattle.exact.specs.Numbers.{isFinite}
-use Rattle.rows.specs.Rows.{guard}
+use Rattle.rows.specs.Rows.{must}
 use Rattle.entry.specs.Entry.{testedBy}
 use Rattle.entry.proofs.tested.Statement.{statement}
 use Rattle.entry.proofs.tested.Tie as tie
@@ -18,15 +18,15 @@ unfolding found
 as-defined c = rw (c .before .before .before .before .finite .ensures, c .before .before .before .finite2 .ensures, c .before .before .finite3 .ensures, c .before .finite4 .ensures, c .finite5 .ensures) refl
 
 returns : tie.Need-returns
-unfolding guard found testedBy
+unfolding must found testedBy
 returns c = rw (← as-defined (c .before), not-true (found (c .before)) (c .if1 .taken)) refl
 
 returns-2 : tie.Need-returns-2
-unfolding guard found testedBy
+unfolding must found testedBy
 returns-2 c = rw (← as-defined (c .before .before .before), not-false (found (c .before .before .before)) (c .before .before .if1 .left), c .if2 .taken) refl
 
 returns-3 : tie.Need-returns-3
-unfolding guard found testedBy
+unfolding must found testedBy
 returns-3 c = rw (← as-defined (c .before .before .before), not-false (found (c .before .before .before)) (c .before .before .if1 .left), c .if2 .left) refl
 
 pub tested-spec : {M : Type 1} → statement M

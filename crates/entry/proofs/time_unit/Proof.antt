@@ -4,14 +4,14 @@ use mathlib.Core.Bool.{true, _&&_}
 use borrow.Author.Needs.{needs}
 use borrow.Author.Tests.{not-true, not-false}
 use Rattle.exact.specs.Numbers.{_⊗_, _⊘_}
-use Rattle.rows.specs.Rows.{pass, guard, onward}
+use Rattle.rows.specs.Rows.{pass, must, onward}
 use Rattle.entry.specs.Entry.{isUsable, rooted, unitOf}
 use Rattle.entry.proofs.Rooted.{root-given, root-refused}
 use Rattle.entry.proofs.time_unit.Statement.{statement}
 use Rattle.entry.proofs.time_unit.Tie as tie
 
 returns : tie.Need-returns
-unfolding guard unitOf
+unfolding must unitOf
 returns c = rw (sym (c .before .usable .ensures) ∙ not-true (c .before .usable .result) (c .if1 .taken)) refl
 
 -- past the first test r0/mu is usable
@@ -19,7 +19,7 @@ good : (c : tie.Else1) → isUsable (c .before .before .args .r0 ⊘ c .before .
 good c = sym (c .before .usable .ensures) ∙ not-false (c .before .usable .result) (c .if1 .left)
 
 returns-2 : tie.Need-returns-2
-unfolding guard onward unitOf
+unfolding must onward unitOf
 returns-2 c =
     let quotient = c .before .before .before .before .before .args .r0 ⊘ c .before .before .before .before .before .args .mu in
     rw (
@@ -35,16 +35,16 @@ given c =
     root-given quotient (c .before .before .before .f1 .given .0 .0) (c .before .before .before .before .before .root .result) (c .before .before .before .before .before .root .ensures) (c .before .before .before .f1 .given .1)
 
 -- and the row as it was found
-row : (c : tie.After-usable3) → unitOf (c .before .before .before .before .before .before .before .before .args .mu) (c .before .before .before .before .before .before .before .before .args .r0) ≡ guard (c .before .usable2 .result && c .usable3 .result) 6 (pass (c .before .before .before .f1 .given .0 .0, c .before .before .before .before .before .before .before .before .args .r0 ⊗ c .before .before .before .f1 .given .0 .0))
-unfolding guard onward unitOf
+row : (c : tie.After-usable3) → unitOf (c .before .before .before .before .before .before .before .before .args .mu) (c .before .before .before .before .before .before .before .before .args .r0) ≡ must (c .before .usable2 .result && c .usable3 .result) 6 (pass (c .before .before .before .f1 .given .0 .0, c .before .before .before .before .before .before .before .before .args .r0 ⊗ c .before .before .before .f1 .given .0 .0))
+unfolding must onward unitOf
 row c = rw (good (c .before .before .before .before .before .before), given c, ← c .before .usable2 .ensures, ← c .usable3 .ensures) refl
 
 returns-3 : tie.Need-returns-3
-unfolding guard
+unfolding must
 returns-3 c = rw (row (c .before), not-true (c .before .before .usable2 .result && c .before .usable3 .result) (c .if2 .taken)) refl
 
 returns-4 : tie.Need-returns-4
-unfolding guard
+unfolding must
 returns-4 c = rw (row (c .before), not-false (c .before .before .usable2 .result && c .before .usable3 .result) (c .if2 .left)) refl
 
 pub time-unit-spec : {M : Type 1} → statement M

@@ -7,7 +7,7 @@ use native.Mathlib.Omega.{arith}
 use lib.Dec.{T}
 use lib.Ieee.{Float, nan, inf, fin, binary64, fits, neg, add, sub, lt, eq, le, ofBits}
 use lib.Ieee.Scale.{overflow}
-use Rattle.exact.specs.Numbers.{nought, Number, magnitude, minus, steps, _⊖_}
+use Rattle.exact.specs.Numbers.{nought, Number, magnitude, isMinus, steps, _⊖_}
 use Rattle.exact.proofs.Basics.{passed}
 use Rattle.exact.proofs.Steps.{same-number}
 use Rattle.exact.proofs.Order.{place, le-place}
@@ -17,7 +17,7 @@ use Rattle.exact.proofs.absolute.Statement.{statement}
 use Rattle.exact.proofs.absolute.Tie as tie
 
 -- a number not minus and at most 0 is 0
-zero-itself : (x : Float) → Number binary64 x → minus x ≡ false → T (le x nought) → x ≡ nought
+zero-itself : (x : Float) → Number binary64 x → isMinus x ≡ false → T (le x nought) → x ≡ nought
 unfolding place
 zero-itself x h plus t =
     let l : overflow binary64 + steps binary64 x ≤ overflow binary64 + 0 = rw (plus, nought-plus, nought-steps) at (le-place binary64 x nought h nought-number .0 t) in
@@ -37,7 +37,7 @@ from-zero (fin false m e) h t =
     ap (λ (x : Float). nought ⊖ x) z ∙ sym (ap magnitude z)
 
 -- what is minus is at most 0
-minus-below : (x : Float) → Number binary64 x → minus x ≡ true → T (le x nought)
+minus-below : (x : Float) → Number binary64 x → isMinus x ≡ true → T (le x nought)
 unfolding place
 minus-below x h s = le-place binary64 x nought h nought-number .1 (rw (s, nought-plus) (below (overflow binary64) (steps binary64 x) (steps binary64 nought)))
   where

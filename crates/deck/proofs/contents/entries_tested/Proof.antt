@@ -5,8 +5,8 @@ use native.Mathlib.Omega.{arith}
 use borrow.Author.Needs.{needs}
 use lib.ListN.{length}
 use Rattle.rows.specs.Rows.{pass}
-use Rattle.deck.specs.Said.{numberOf, entered}
-use Rattle.deck.specs.Contents.{entryOf}
+use Rattle.deck.specs.Said.{reasonNumber, entered}
+use Rattle.deck.specs.Contents.{entryIn}
 use Rattle.deck.proofs.Cards.{entry-inside}
 use Rattle.deck.proofs.Walking.{Walking, set-out, entry-refused, walk-on, left-over, all-read}
 use Rattle.deck.proofs.contents.entries_tested.Statement.{statement}
@@ -25,10 +25,10 @@ entry-at-requires : tie.Need-entry-at-requires Inv-loop μ-loop
 entry-at-requires c κs = (omega (arith, c .before .loop .inv .few), c .before .loop .inv .inside)
 
 returns : tie.Need-returns Inv-loop μ-loop
-returns c = entry-refused (c .before .before .before .before .before .loop .inv) (numberOf (c .before .why .given .0 .0)) (omega arith) (sym (c .before .before .before .entry-at .ensures) ∙ ap entered (c .before .why .given .1))
+returns c = entry-refused (c .before .before .before .before .before .loop .inv) (reasonNumber (c .before .why .given .0 .0)) (omega arith) (sym (c .before .before .before .entry-at .ensures) ∙ ap entered (c .before .why .given .1))
 
 -- the entry passed, and its body is inside
-passed : (c : tie.After-size Inv-loop μ-loop) → entryOf (c .before .before .before .before .before .before .before .before .args .deck .now) (c .before .before .before .before .before .before .loop .i) (c .before .before .before .before .before .before .loop .at) ≡ pass (c .before .before .kind .given .0 .0)
+passed : (c : tie.After-size Inv-loop μ-loop) → entryIn (c .before .before .before .before .before .before .before .before .args .deck .now) (c .before .before .before .before .before .before .loop .i) (c .before .before .before .before .before .before .loop .at) ≡ pass (c .before .before .kind .given .0 .0)
 passed c = sym (c .before .before .before .before .entry-at .ensures) ∙ ap entered (c .before .before .kind .given .1)
 
 room : (c : tie.After-size Inv-loop μ-loop) → c .before .before .before .before .before .before .loop .at + c .size .result ≤ length (c .before .before .before .before .before .before .before .before .args .deck .now)

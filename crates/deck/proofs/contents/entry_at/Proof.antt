@@ -5,45 +5,45 @@ use native.Mathlib.Omega.{arith}
 use borrow.Author.Tests.{eq-eqb, ne-eqb, le-leb, lt-leb}
 use lib.Dec.{eqb, leb}
 use lib.ListN.{length}
-use Rattle.rows.specs.Rows.{pass, guard, onward}
-use Rattle.deck.specs.Contents.{offsetAt, entryOf}
+use Rattle.rows.specs.Rows.{pass, must, onward}
+use Rattle.deck.specs.Contents.{offsetAt, entryIn}
 use borrow.Author.Needs.{needs}
 use Rattle.deck.proofs.contents.entry_at.Statement.{statement}
 use Rattle.deck.proofs.contents.entry_at.Tie as tie
 
 returns : tie.Need-returns
-unfolding onward entryOf
+unfolding onward entryIn
 returns c = rw (← c .before .before .before .half .ensures, ← c .before .before .kind-of .ensures, c .enum-told .given .1) refl
 
 -- past the first test, the row as it was found
-known : (c : tie.After-half2) → entryOf (c .before .before .before .before .before .before .before .before .args .deck .now) (c .before .before .before .before .before .before .before .before .args .i) (c .before .before .before .before .before .before .before .before .args .at) ≡ guard (eqb (c .half2 .result) (c .before .size .result)) 35 (guard (eqb (offsetAt (c .before .before .before .before .before .before .before .before .args .deck .now) (c .before .before .before .before .before .before .before .before .args .i)) (c .before .before .before .before .before .before .before .before .args .at)) 36 (guard (leb (c .before .before .before .before .before .before .before .before .args .at + c .before .size .result) (length (c .before .before .before .before .before .before .before .before .args .deck .now))) 37 (pass (c .before .before .before .kind .given .0 .0))))
-unfolding onward entryOf
+known : (c : tie.After-half2) → entryIn (c .before .before .before .before .before .before .before .before .args .deck .now) (c .before .before .before .before .before .before .before .before .args .i) (c .before .before .before .before .before .before .before .before .args .at) ≡ must (eqb (c .half2 .result) (c .before .size .result)) 35 (must (eqb (offsetAt (c .before .before .before .before .before .before .before .before .args .deck .now) (c .before .before .before .before .before .before .before .before .args .i)) (c .before .before .before .before .before .before .before .before .args .at)) 36 (must (leb (c .before .before .before .before .before .before .before .before .args .at + c .before .size .result) (length (c .before .before .before .before .before .before .before .before .args .deck .now))) 37 (pass (c .before .before .before .kind .given .0 .0))))
+unfolding onward entryIn
 known c = rw (← c .before .before .before .before .before .before .half .ensures, ← c .before .before .before .before .before .kind-of .ensures, c .before .before .before .kind .given .1, ← c .half2 .ensures, ← c .before .size .ensures) refl
 
 returns-2 : tie.Need-returns-2
-unfolding guard
+unfolding must
 returns-2 c = rw (known (c .before), ne-eqb (c .before .half2 .result) (c .before .before .size .result) (c .if1 .taken)) refl
 
 -- past the second
-right-length : (c : tie.After-half3) → entryOf (c .before .before .before .before .before .before .before .before .before .before .args .deck .now) (c .before .before .before .before .before .before .before .before .before .before .args .i) (c .before .before .before .before .before .before .before .before .before .before .args .at) ≡ guard (eqb (c .half3 .result) (c .before .before .before .before .before .before .before .before .before .before .args .at)) 36 (guard (leb (c .before .before .before .before .before .before .before .before .before .before .args .at + c .before .before .before .size .result) (length (c .before .before .before .before .before .before .before .before .before .before .args .deck .now))) 37 (pass (c .before .before .before .before .before .kind .given .0 .0)))
-unfolding guard
+right-length : (c : tie.After-half3) → entryIn (c .before .before .before .before .before .before .before .before .before .before .args .deck .now) (c .before .before .before .before .before .before .before .before .before .before .args .i) (c .before .before .before .before .before .before .before .before .before .before .args .at) ≡ must (eqb (c .half3 .result) (c .before .before .before .before .before .before .before .before .before .before .args .at)) 36 (must (leb (c .before .before .before .before .before .before .before .before .before .before .args .at + c .before .before .before .size .result) (length (c .before .before .before .before .before .before .before .before .before .before .args .deck .now))) 37 (pass (c .before .before .before .before .before .kind .given .0 .0)))
+unfolding must
 right-length c = rw (known (c .before .before), eq-eqb (c .before .before .half2 .result) (c .before .before .before .size .result) (c .before .if1 .left), ← c .half3 .ensures) refl
 
 returns-3 : tie.Need-returns-3
-unfolding guard
+unfolding must
 returns-3 c = rw (right-length (c .before), ne-eqb (c .before .half3 .result) (c .before .before .before .before .before .before .before .before .before .before .before .args .at) (c .if2 .taken)) refl
 
 -- past the third
-right-offset : (c : tie.Else2) → entryOf (c .before .before .before .before .before .before .before .before .before .before .before .args .deck .now) (c .before .before .before .before .before .before .before .before .before .before .before .args .i) (c .before .before .before .before .before .before .before .before .before .before .before .args .at) ≡ guard (leb (c .before .before .before .before .before .before .before .before .before .before .before .args .at + c .before .before .before .before .size .result) (length (c .before .before .before .before .before .before .before .before .before .before .before .args .deck .now))) 37 (pass (c .before .before .before .before .before .before .kind .given .0 .0))
-unfolding guard
+right-offset : (c : tie.Else2) → entryIn (c .before .before .before .before .before .before .before .before .before .before .before .args .deck .now) (c .before .before .before .before .before .before .before .before .before .before .before .args .i) (c .before .before .before .before .before .before .before .before .before .before .before .args .at) ≡ must (leb (c .before .before .before .before .before .before .before .before .before .before .before .args .at + c .before .before .before .before .size .result) (length (c .before .before .before .before .before .before .before .before .before .before .before .args .deck .now))) 37 (pass (c .before .before .before .before .before .before .kind .given .0 .0))
+unfolding must
 right-offset c = rw (right-length (c .before), eq-eqb (c .before .half3 .result) (c .before .before .before .before .before .before .before .before .before .before .before .args .at) (c .if2 .left)) refl
 
 returns-4 : tie.Need-returns-4
-unfolding guard
+unfolding must
 returns-4 c = let short : length (c .before .before .before .before .before .before .before .before .before .before .before .before .args .deck .now) < c .before .before .before .before .before .before .before .before .before .before .before .before .args .at + c .before .before .before .before .before .size .result = omega arith in rw (right-offset (c .before), lt-leb (c .before .before .before .before .before .before .before .before .before .before .before .before .args .at + c .before .before .before .before .before .size .result) (length (c .before .before .before .before .before .before .before .before .before .before .before .before .args .deck .now)) short) refl
 
 returns-5 : tie.Need-returns-5
-unfolding guard
+unfolding must
 returns-5 c = let whole : c .before .before .before .before .before .before .before .before .before .before .before .before .args .at + c .before .before .before .before .before .size .result ≤ length (c .before .before .before .before .before .before .before .before .before .before .before .before .args .deck .now) = omega arith in rw (right-offset (c .before), le-leb (c .before .before .before .before .before .before .before .before .before .before .before .before .args .at + c .before .before .before .before .before .size .result) (length (c .before .before .before .before .before .before .before .before .before .before .before .before .args .deck .now)) whole) refl
 
 pub entry-at-spec : {M : Type 1} → statement M

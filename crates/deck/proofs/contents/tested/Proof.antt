@@ -3,35 +3,35 @@ use mathlib.Core.Path.{_≡_, refl, _∙_}
 use borrow.Author.Tests.{eq-eqb, ne-eqb, le-leb, lt-leb}
 use lib.Dec.{leb}
 use lib.ListN.{length}
-use Rattle.rows.specs.Rows.{guard, onward}
+use Rattle.rows.specs.Rows.{must, onward}
 use Rattle.deck.specs.Contents.{entryAt, cardsFrom, cardsOf}
 use borrow.Author.Needs.{needs}
 use Rattle.deck.proofs.contents.tested.Statement.{statement}
 use Rattle.deck.proofs.contents.tested.Tie as tie
 
 returns : tie.Need-returns
-unfolding guard onward cardsOf
+unfolding must onward cardsOf
 returns c = rw (lt-leb 8 (length (c .before .before .args .deck .now)) (c .if1 .taken)) refl
 
 returns-2 : tie.Need-returns-2
-unfolding guard onward cardsOf
+unfolding must onward cardsOf
 returns-2 c = rw (le-leb 8 (length (c .before .before .before .before .args .deck .now)) (c .before .before .if1 .left), ← c .before .half .ensures, ne-eqb (c .before .half .result) 1 (c .if2 .taken)) refl
 
 -- past the version, the row as it was found
-counted : (c : tie.After-half2) → cardsOf (c .before .before .before .before .before .args .deck .now) ≡ guard (leb (c .half2 .result) 256) 32 (guard (leb (entryAt (c .half2 .result)) (length (c .before .before .before .before .before .args .deck .now))) 33 (cardsFrom (c .before .before .before .before .before .args .deck .now) (c .half2 .result) 0 (entryAt (c .half2 .result))))
-unfolding guard cardsOf
+counted : (c : tie.After-half2) → cardsOf (c .before .before .before .before .before .args .deck .now) ≡ must (leb (c .half2 .result) 256) 32 (must (leb (entryAt (c .half2 .result)) (length (c .before .before .before .before .before .args .deck .now))) 33 (cardsFrom (c .before .before .before .before .before .args .deck .now) (c .half2 .result) 0 (entryAt (c .half2 .result))))
+unfolding must cardsOf
 counted c = rw (le-leb 8 (length (c .before .before .before .before .before .args .deck .now)) (c .before .before .before .if1 .left), ← c .before .before .half .ensures, eq-eqb (c .before .before .half .result) 1 (c .before .if2 .left), ← c .half2 .ensures) refl
 
 returns-3 : tie.Need-returns-3
-unfolding guard onward
+unfolding must onward
 returns-3 c = rw (counted (c .before), lt-leb (c .before .half2 .result) 256 (c .if3 .taken)) refl
 
 returns-4 : tie.Need-returns-4
-unfolding guard onward
+unfolding must onward
 returns-4 c = rw (counted (c .before .before), le-leb (c .before .before .half2 .result) 256 (c .before .if3 .left), lt-leb (entryAt (c .before .before .half2 .result)) (length (c .before .before .before .before .before .before .before .args .deck .now)) (c .if4 .taken)) refl
 
 returns-5 : tie.Need-returns-5
-unfolding guard
+unfolding must
 returns-5 c = c .entries-tested .ensures ∙ rw (counted (c .before .before .before), le-leb (c .before .before .before .half2 .result) 256 (c .before .before .if3 .left), le-leb (entryAt (c .before .before .before .half2 .result)) (length (c .before .before .before .before .before .before .before .before .args .deck .now)) (c .before .if4 .left), ← c .before .before .before .half2 .ensures) refl
 
 pub tested-spec : {M : Type 1} → statement M
