@@ -1,13 +1,11 @@
--- Two answers that meet a contract coincide, for each public function that answers an enum: what is said of an answer can be undone, and the
--- number of a reason names the reason. The contracts of the others are equations of the result itself (exact's `one-result`).
+-- What an answer says can be undone, since the number of a reason names the reason: `said` and `arrived` are one to one, and a contract through
+-- one of them has one answer.
 use mathlib.Core.Path.{_≡_, refl, ap}
 use mathlib.Core.List.{List, [], _∷_}
 use Prim.Native.Nat.{ℕ}
 use lib.ListN.{getD}
-use lib.Ieee.{Float}
-use Rattle.exact.proofs.Coincidence.{one-result, undone}
-use Rattle.conic.specs.declared.State.{State}
-use Rattle.conic.specs.declared.Scaled.{Scaled}
+use Rattle.exact.specs.OneToOne.{OneToOne}
+use Rattle.exact.proofs.Coincidence.{undone}
 use Rattle.conic.specs.declared.Reason.{Reason}
 use Rattle.conic.specs.declared.Reason.the-variants as why
 use Rattle.conic.specs.declared.Outcome.{Outcome}
@@ -15,8 +13,7 @@ use Rattle.conic.specs.declared.Outcome.the-variants as outcome
 use Rattle.conic.specs.declared.unfolding.Arrival.{Arrival}
 use Rattle.conic.specs.declared.unfolding.Arrival.the-variants as arrival
 use Rattle.rows.specs.Rows.{Checked, pass, refuse}
-use Rattle.conic.specs.Said.{Said, solved, refused, refusedWithBracket, reasonNumber, said, withState, arrived}
-use Rattle.conic.specs.Unfolding.{arrivalOf, arrivalAt}
+use Rattle.conic.specs.Said.{Said, solved, refused, refusedWithBracket, reasonNumber, said, arrived}
 
 -- ---- a reason by its number: a list from 0 on, where the numbers 0 and 13 are no prediction's
 abbrev reasons : List Reason
@@ -68,11 +65,8 @@ unsaid-is (outcome.Solved x n state) = refl
 unsaid-is (outcome.Refused r n) = ap (λ (k : Reason). outcome.Refused k n) (reason-is r)
 unsaid-is (outcome.RefusedWithBracket r n lo hi) = ap (λ (k : Reason). outcome.RefusedWithBracket k n lo hi) (reason-is r)
 
-pub one-said : (s : Said) (a b : Outcome) → said a ≡ s → said b ≡ s → a ≡ b
-one-said s a b p q = undone said unsaid unsaid-is a b (one-result p q)
-
-pub one-outcome : (arrival : Arrival) (x : Float) (n : ℕ) (a b : Outcome) → said a ≡ withState x n (arrived arrival) → said b ≡ withState x n (arrived arrival) → a ≡ b
-one-outcome arrival x n a b p q = one-said (withState x n (arrived arrival)) a b p q
+pub said-once : OneToOne said
+said-once = undone said unsaid unsaid-is
 
 -- ---- the answers on the way: something passed, or a reason
 
@@ -84,11 +78,5 @@ unarrived : (a : Arrival) → untold arrival.State arrival.Refused (arrived a) �
 unarrived (arrival.State state) = refl
 unarrived (arrival.Refused r) = ap arrival.Refused (reason-is r)
 
-arrived-once : {defined : Checked State} (a b : Arrival) → arrived a ≡ defined → arrived b ≡ defined → a ≡ b
-arrived-once a b p q = undone arrived (untold arrival.State arrival.Refused) unarrived a b (one-result p q)
-
-pub one-arrival : (o : Scaled) (u1 u2 ratio : Float) (a b : Arrival) → arrived a ≡ arrivalOf o u1 u2 ratio → arrived b ≡ arrivalOf o u1 u2 ratio → a ≡ b
-one-arrival o u1 u2 ratio a b p q = arrived-once a b p q
-
-pub one-arrival-at : (o : Scaled) (x : Float) (a b : Arrival) → arrived a ≡ arrivalAt o x → arrived b ≡ arrivalAt o x → a ≡ b
-one-arrival-at o x a b p q = arrived-once a b p q
+pub arrived-once : OneToOne arrived
+arrived-once = undone arrived (untold arrival.State arrival.Refused) unarrived

@@ -1,10 +1,11 @@
--- Two answers of a check that meet the contract coincide: what is said of an answer can be undone, and the number of a reason names the
--- reason. The contract of the list is an equation of the list itself (exact's `one-result`).
+-- What the answer of a check says can be undone, since the number of a reason names the reason: `said` is one to one, and the contract of
+-- `check` has one answer.
 use mathlib.Core.Path.{_≡_, refl, ap}
 use mathlib.Core.List.{List, [], _∷_}
 use Prim.Native.Nat.{ℕ, _-_}
 use lib.ListN.{getD}
-use Rattle.exact.proofs.Coincidence.{one-result, undone}
+use Rattle.exact.specs.OneToOne.{OneToOne}
+use Rattle.exact.proofs.Coincidence.{undone}
 use Rattle.rows.specs.Rows.{Checked, pass, refuse}
 use Rattle.deck.specs.declared.Totals.{Totals}
 use Rattle.deck.specs.declared.Reason.{Reason}
@@ -15,7 +16,6 @@ use Rattle.deck.specs.declared.Answer.{Answer}
 use Rattle.deck.specs.declared.Answer.the-variants as answer
 use Rattle.deck.specs.Tally.{Residuals, absent, known}
 use Rattle.deck.specs.Said.{reasonNumber, told, said}
-use Rattle.deck.specs.Check.{answerOf}
 
 -- a reason by its number, from 30 on
 abbrev reasons : List Reason
@@ -63,5 +63,5 @@ unsaid-is : (a : Answer) → unsaid (said a) ≡ a
 unsaid-is (answer.Accepted totals r) = ap (answer.Accepted totals) (untold-is r)
 unsaid-is (answer.Refused r) = ap answer.Refused (reason-is r)
 
-pub one-answer : (deck : List ℕ) (room : ℕ) (a b : Answer) → said a ≡ answerOf deck room → said b ≡ answerOf deck room → a ≡ b
-one-answer deck room a b p q = undone said unsaid unsaid-is a b (one-result p q)
+pub said-once : OneToOne said
+said-once = undone said unsaid unsaid-is

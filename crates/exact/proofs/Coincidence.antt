@@ -1,9 +1,14 @@
--- A contract that is an equation with a definition is met by one result alone. Every public function of this crate has such a contract.
+-- Why two results that meet a contract coincide. A contract is an equation with a definition, of the result itself or of what a map says of it
+-- (`.ci/statements` holds every public function to these forms). The first is met by one result alone (`one-result`), and so is the second
+-- where the map is one to one (`one-answer`), as it is where it can be undone (`undone`).
 use mathlib.Core.Path.{_≡_, sym, ap, _∙_}
+use Rattle.exact.specs.OneToOne.{OneToOne}
 
 pub one-result : {A : Type 0} {defined r t : A} → r ≡ defined → t ≡ defined → r ≡ t
 one-result p q = p ∙ sym q
 
--- what can be undone is said of one answer only
-pub undone : {A B : Type 0} (said : A → B) (back : B → A) → ((a : A) → back (said a) ≡ a) → (a b : A) → said a ≡ said b → a ≡ b
-undone said back is a b e = sym (is a) ∙ ap back e ∙ is b
+pub one-answer : {A B : Type 0} {S : A → B} → OneToOne S → {defined : B} (a b : A) → S a ≡ defined → S b ≡ defined → a ≡ b
+one-answer once a b p q = once a b (one-result p q)
+
+pub undone : {A B : Type 0} (S : A → B) (back : B → A) → ((a : A) → back (S a) ≡ a) → OneToOne S
+undone S back is a b e = sym (is a) ∙ ap back e ∙ is b

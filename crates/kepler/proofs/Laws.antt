@@ -1,19 +1,23 @@
 -- The laws of Kepler's answers. A guess is counted, and before the first one the count is 0 (`refused-before`, `counts`). A refusal's number is
 -- not 0, and one byte holds it (`refusal-numbered`). Solved means near, finite, allowed and in the starting bracket (`solved-means`). A refusal
--- that names a bracket, 9 or 10, names one in the starting bracket with the wanted time not outside the times of its ends (`bracket-means`), and
--- the times kept beside them are theirs (`times-kept`). Each is the law of the search, for the time of a scaled problem that passed the entry
+-- that names a bracket, 9 or 10, names one in the starting bracket; the times of its ends are finite, the lower one at most the wanted time and
+-- the upper one at least (`bracket-means`); the times kept beside the ends are theirs (`times-kept`). Each is the law of the search, for the time of a scaled problem that passed the entry
 -- tests.
 use mathlib.Core.Path.{_≡_, refl, ap, subst}
 use mathlib.Core.Logic.{_⊎_, inl, inr}
 use mathlib.Core.Bool.{true, false}
 use Prim.Native.Nat.{ℕ, _≤_}
-use lib.Ieee.{Float, lt, le}
-use Rattle.exact.specs.Numbers.{isFinite, isNear}
+use lib.Ieee.{Float, binary64, lt, le}
+use lib.Ieee.Bits.{is-true}
+use Rattle.exact.specs.Numbers.{isFinite, Number, isNear}
+use Rattle.exact.proofs.Basics.{failed}
+use Rattle.exact.proofs.Order.{le-of-not-lt}
 use Rattle.search.specs.declared.Bracket.{Bracket}
 use Rattle.search.specs.Said as search
 use Rattle.search.proofs.Hunt.{Names}
 use Rattle.search.proofs.Count as count
-use Rattle.search.proofs.Laws.{In, Kept, solved-near, solved-in, named-kept, named-ends}
+use Rattle.search.proofs.Laws as laws
+use Rattle.search.proofs.Laws.{In, Kept, solved-near, solved-in, named-kept}
 use Rattle.conic.specs.declared.Problem.{Problem}
 use Rattle.conic.specs.declared.Scaled.{Scaled}
 use Rattle.conic.specs.declared.State.{State}
@@ -25,7 +29,7 @@ use Rattle.entry.specs.Entry.{entryOf}
 use Rattle.rows.proofs.Laws.{Refuses, refusal-has}
 use Rattle.conic.proofs.Arrival.{Numbered, arrival-refuses, Arrives, arrives}
 use Rattle.entry.proofs.Refusals.{entry-refuses}
-use Rattle.entry.proofs.Passed.{entered}
+use Rattle.entry.proofs.Passed.{entered, times-are}
 use Rattle.entry.proofs.Fair.{fair}
 use Rattle.kepler.specs.Kepler.{arrivedAt, outcomeOf, foundIn, afterEntry, keplerOf}
 
@@ -60,14 +64,13 @@ module _ (p : Problem) (o : Scaled) (b : Bracket) (h : entryOf p ≡ pass (o, b)
   unfolding foundIn
   counts = rw (searched, outcome-count o (foundIn o (p .limit) b)) (count.search-counts (timeAt o) (o .t) (p .limit) b (entered p o b h .least))
 
-  -- "for every end that an answer names, the kept time is the T of that end"
   pub times-kept : (new : Bracket) → Names (foundIn o (p .limit) b) new → (new .lo .time ≡ timeAt o (new .lo .x)) × (new .hi .time ≡ timeAt o (new .hi .x))
   unfolding foundIn
-  times-kept new w = let f = fair p o b (entered p o b h) in named-ends (timeAt o) (o .t) (λ e. e .time ≡ timeAt o (e .x)) (λ x g. refl) (p .limit) b (f .lo-kept) (f .hi-kept) new w
+  times-kept new w = laws.times-kept (timeAt o) (o .t) (p .limit) b (fair p o b (entered p o b h)) new w
 
   found-in : {x : Float} {n : ℕ} → foundIn o (p .limit) b ≡ search.solved x n → In b x
   unfolding foundIn
-  found-in e = let f = fair p o b (entered p o b h) in solved-in (timeAt o) (o .t) (p .limit) b (f .starts) (f .lo-time) (f .hi-time) e
+  found-in e = solved-in (timeAt o) (o .t) (p .limit) b (fair p o b (entered p o b h)) e
 
   found-near : {x : Float} {n : ℕ} → foundIn o (p .limit) b ≡ search.solved x n → (isFinite (timeAt o x) ≡ true) × (isNear (timeAt o x) (o .t) ≡ true)
   unfolding foundIn
@@ -75,7 +78,7 @@ module _ (p : Problem) (o : Scaled) (b : Bracket) (h : entryOf p ≡ pass (o, b)
 
   kept : (new : Bracket) → Names (foundIn o (p .limit) b) new → Kept (timeAt o) (o .t) b new
   unfolding foundIn
-  kept new w = let f = fair p o b (entered p o b h) in named-kept (timeAt o) (o .t) (p .limit) b (f .starts) (f .lo-time) (f .hi-time) new w
+  kept new w = named-kept (timeAt o) (o .t) (p .limit) b (fair p o b (entered p o b h)) new w
 
   all-spent : {new : Bracket} {n : ℕ} → foundIn o (p .limit) b ≡ search.spent new n → n ≡ p .limit
   unfolding foundIn
@@ -165,8 +168,13 @@ pub record IsNamed (p : Problem) (k n : ℕ) (lo hi : Float) : Type 0 where
   pub lo-in : In start lo
   pub hi-in : In start hi
   pub in-order : le lo hi ≡ true
+  pub lo-finite : isFinite (timeAt o lo) ≡ true
+  pub hi-finite : isFinite (timeAt o hi) ≡ true
+  -- T at the lower end is not above t, and T at the upper end not below; between finite times that is ≤
   pub lo-time : lt (o .t) (timeAt o lo) ≡ false
   pub hi-time : lt (timeAt o hi) (o .t) ≡ false
+  pub lo-at-most : le (timeAt o lo) (o .t) ≡ true
+  pub hi-at-least : le (o .t) (timeAt o hi) ≡ true
 
 -- what an answer says, if it names a bracket
 abbrev NamesWell : Problem → Said → Type 0
@@ -178,10 +186,30 @@ state-names : (p : Problem) (x : Float) (n : ℕ) (c : Checked State) → NamesW
 state-names p x n (pass state) = tt
 state-names p x n (refuse k) = tt
 
+-- of numbers, what is not above is at most
+at-most : (x y : Float) → Number binary64 x → Number binary64 y → lt x y ≡ false → le y x ≡ true
+at-most x y h k e = is-true (le y x) (le-of-not-lt binary64 x y h k (failed e))
+
 named : (p : Problem) (o : Scaled) (b : Bracket) → entryOf p ≡ pass (o, b) → (new : Bracket) → Names (foundIn o (p .limit) b) new → (k n : ℕ) → (k ≡ 9) ⊎ ((k ≡ 10) × (n ≡ p .limit)) → IsNamed p k n (new .lo .x) (new .hi .x)
 named p o b h new w k n number =
     let i = kept p o b h new w in
-    record { o = o; start = b; entry = h; number = number; lo-in = i .lo-in; hi-in = i .hi-in; in-order = i .in-order; lo-time = i .lo-time; hi-time = i .hi-time }
+    let lo = times-are p o b (entered p o b h) (new .lo .x) (i .lo-finite) in
+    let hi = times-are p o b (entered p o b h) (new .hi .x) (i .hi-finite) in
+    record {
+      o = o;
+      start = b;
+      entry = h;
+      number = number;
+      lo-in = i .lo-in;
+      hi-in = i .hi-in;
+      in-order = i .in-order;
+      lo-finite = i .lo-finite;
+      hi-finite = i .hi-finite;
+      lo-time = i .lo-time;
+      hi-time = i .hi-time;
+      lo-at-most = at-most (o .t) (timeAt o (new .lo .x)) (lo .1) (lo .0) (i .lo-time);
+      hi-at-least = at-most (timeAt o (new .hi .x)) (o .t) (hi .0) (hi .1) (i .hi-time);
+    }
 
 end-names : (p : Problem) (o : Scaled) (b : Bracket) → entryOf p ≡ pass (o, b) → (e : search.Ending) → foundIn o (p .limit) b ≡ e → NamesWell p (outcomeOf o e)
 unfolding arrivedAt

@@ -1,6 +1,6 @@
 -- The theorems on the root. The definition's root has the property that document 01 asks for (`definition-holds`): it is the nearest among
 -- all finite binary64 numbers, by comparing squares. Two results with the property coincide (`one-root`). So contract and property are
--- the same statement, on every input (`contract-is-property`), and two answers that meet the contract coincide (`one-answer`).
+-- the same statement, on every input (`contract-is-property`). And `said` is one to one (`said-once`), so that the contract has one answer.
 use mathlib.Core.Path.{_≡_, refl, sym, ap, _∙_, subst}
 use mathlib.Core.Logic.{_↔_}
 use mathlib.Core.Bool.{Bool, true, false}
@@ -10,9 +10,9 @@ use native.Mathlib.Omega.{arith}
 use lib.Dec.{T}
 use lib.Ieee.{Float, nan, inf, fin, binary64, fits, lt, eq, ofBits}
 use lib.Ieee.Bits.{is-true, is-false}
+use Rattle.exact.specs.OneToOne.{OneToOne}
 use Rattle.exact.specs.Numbers.{nought, isFinite, isMinus, steps}
 use Rattle.exact.proofs.Basics.{passed, failed}
-use Rattle.exact.proofs.Coincidence.{one-result}
 use Rattle.exact.proofs.Steps.{same-number}
 use Rattle.exact.proofs.Order.{plus-lt, above-alone, equal-alone, lt-of-neither}
 use Rattle.exact.proofs.Zero.{nought-number, positive-is}
@@ -85,10 +85,12 @@ one-root x s t h a b = go (isFinite x) (lt x nought) (eq x nought) refl refl ref
         let v = b .above-zero (passed e) p in
         u .1 ∙ ap root (one-nearest x (u .0) (v .0) (u .2) (v .2)) ∙ sym (v .1)
 
--- ---- the contract and the property, and the coincidence of two answers
+-- ---- the contract and the property
 
 pub contract-is-property : (x : Float) → T (fits binary64 x) → (s : Said) → (s ≡ rootOf x) ↔ IsRoot x s
 contract-is-property x h s = ((λ e. subst (IsRoot x) (sym e) (definition-holds x h)), λ a. one-root x s (rootOf x) h a (definition-holds x h))
+
+-- ---- no two answers say the same
 
 reason-once : (v w : Reason) → refused (reasonNumber v) ≡ refused (reasonNumber w) → v ≡ w
 reason-once NotFinite NotFinite e = refl
@@ -96,12 +98,8 @@ reason-once NotFinite BelowZero e = let z : _≡_ {A = ℕ} 1 13 = cc in absurd 
 reason-once BelowZero NotFinite e = let z : _≡_ {A = ℕ} 13 1 = cc in absurd (omega arith)
 reason-once BelowZero BelowZero e = refl
 
--- no two answers say the same
-pub said-once : (a b : Answer) → said a ≡ said b → a ≡ b
+pub said-once : OneToOne said
 said-once (Root x) (Root y) e = cc
 said-once (Root x) (Refused w) e = cc
 said-once (Refused v) (Root y) e = cc
 said-once (Refused v) (Refused w) e = ap Refused (reason-once v w e)
-
-pub one-answer : (x : Float) (a b : Answer) → said a ≡ rootOf x → said b ≡ rootOf x → a ≡ b
-one-answer x a b p q = said-once a b (one-result p q)
