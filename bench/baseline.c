@@ -1,4 +1,4 @@
-/* Document 01's steps in plain C: what the proved code is measured against.
+/* The steps of docs/RULES.md in plain C: what the proved code is measured against.
  *
  * Compiled twice: with ROOT_BY_DIGITS the root is found digit by digit on whole numbers, as
  * crates/root finds it; without, it is the processor's own. To be compiled with -ffp-contract=off

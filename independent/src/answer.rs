@@ -1,4 +1,4 @@
-//! Document 01, "Refusal numbers": one answer with three cases, and the line that each is printed as.
+//! RULES, Refusal numbers 3: one answer with three cases, and the line that each is printed as.
 
 use std::fmt;
 
@@ -58,7 +58,7 @@ fn write_words(f: &mut fmt::Formatter, numbers: &[f64]) -> fmt::Result {
         .try_for_each(|number| write!(f, " {:016x}", number.to_bits()))
 }
 
-/// Turns a test of document 01 into a refusal with its number.
+/// Turns a test of the rules into a refusal with its number.
 pub fn refuse(number: u32, when: bool) -> Result<(), u32> {
     if when {
         Err(number)

@@ -1,5 +1,5 @@
-//! What Kepler and Theta share: document 01, "From the state to the scaled problem" and
-//! "Unfolding", with the refusals that belong to them.
+//! What Kepler and Theta share: RULES, From the state to the scaled problem, and RULES,
+//! Unfolding, with the refusals that belong to them.
 
 use crate::answer::refuse;
 use crate::root::{self, root};

@@ -1,4 +1,4 @@
-//! Document 01, "The deck" and "The check program's listing".
+//! RULES, The deck, and RULES, The check program's listing.
 
 use crate::answer::refuse;
 use crate::bytes::{u32_at, u64_at, words_from_bytes};

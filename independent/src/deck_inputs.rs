@@ -90,7 +90,7 @@ fn own(chance: &mut Chance) -> Vec<Card> {
     vec![Card::own(kepler_inputs::mixed(chance))]
 }
 
-/// Document 01's deck A.
+/// The rules' deck A.
 fn deck_a() -> Vec<u8> {
     let problem = |v: Vector| Input {
         words: PLAIN.words(v, 0.0),

@@ -1,4 +1,4 @@
-//! Document 01, Kepler: the tests before the first guess, and "The search".
+//! Kepler by the rules: the tests before the first guess, and RULES, The search.
 
 use crate::answer::{refuse, Answer};
 use crate::conic::{inner_root, Orbit, Problem, Words};

@@ -62,7 +62,7 @@ pub fn unhurried(words: Words) -> Input {
     Input { words, limit: 100 }
 }
 
-/// Document 01's trials, in its order and words.
+/// Kepler's trials in the rules, in their order.
 fn trials() -> Vec<Input> {
     let plain = |v: Vector, dt: f64, limit: u32| Input {
         words: PLAIN.words(v, dt),
@@ -74,19 +74,19 @@ fn trials() -> Vec<Input> {
     vec![
         // v (1,1,0): alpha 0, X 64. At x = 4: U1 4, U2 8, R 13, position (5,12,0).
         plain([1.0, 1.0, 0.0], 4.0 + 8.0 + 64.0 / 6.0, 20),
-        // v (0,1,0), dt 0: solved, x 0, count 1, the state given.
+        // v (0,1,0), dt 0: solved, x 0, count 1, the state that was given.
         plain([0.0, 1.0, 0.0], 0.0, 20),
         // v (1,0,0), dt 0: 7. v (0,2^-10,0), dt 0: solved; v (0,2^-11,0), dt 0: 7.
         plain([1.0, 0.0, 0.0], 0.0, 20),
         plain([0.0, power_of_two(-10), 0.0], 0.0, 20),
         plain([0.0, power_of_two(-11), 0.0], 0.0, 20),
-        // limit 0: 3; limit 101: 3. mu -1 with a NaN velocity: 1.
+        // limit 0: 3; limit 101: 3. mu -1 and a velocity with a NaN: 1.
         plain([0.0, 1.0, 0.0], 0.0, 0),
         plain([0.0, 1.0, 0.0], 0.0, 101),
         unhurried(with(changed(0, -1.0), 4, f64::NAN.to_bits())),
         // v (1,1,0), dt 20, limit 1: 10, count 1, bracket 0 to 20.
         plain([1.0, 1.0, 0.0], 20.0, 1),
-        // v (0,1,0), limit 100: dt 7 solved; dt 9 and -9 give 8.
+        // v (0,1,0), limit 100: dt 7: solved; dt 9: 8; dt -9: 8.
         plain([0.0, 1.0, 0.0], 7.0, 100),
         plain([0.0, 1.0, 0.0], 9.0, 100),
         plain([0.0, 1.0, 0.0], -9.0, 100),

@@ -1,4 +1,4 @@
-//! Document 01, "Numbers": the root, and its refusals 1 and 13.
+//! RULES, Numbers 4: the root, and its refusals 1 and 13.
 
 use std::fmt;
 
@@ -17,7 +17,7 @@ impl fmt::Display for Answer {
 }
 
 /// The processor's root is the nearest one, says IEEE 754. It is not trusted: each answer is held
-/// to document 01's own statement over whole numbers.
+/// to what RULES, Numbers 5, says over whole numbers.
 pub fn root(word: u64) -> Answer {
     let x = f64::from_bits(word);
     if !x.is_finite() {

@@ -10,7 +10,7 @@ const FRACTION: u64 = SMALLEST_NORMAL - 1;
 /// The gate's inputs, the same list in every run.
 pub fn fixed() -> Vec<u64> {
     let chance = &mut Chance::at(1, 0);
-    // Document 01's trials come first: 4, 0.25, 2^-1074, -0, -1.
+    // The rules' trials come first: 4, 0.25, 2^-1074, -0, -1.
     let mut list = vec![
         4f64.to_bits(),
         0.25f64.to_bits(),

@@ -1,4 +1,4 @@
-//! Document 01, "Theta".
+//! RULES, Theta.
 
 use crate::answer::{refuse, Answer};
 use crate::conic::{inner_root, Orbit, Problem, Words};

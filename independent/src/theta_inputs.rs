@@ -28,10 +28,10 @@ pub fn mixed(chance: &mut Chance) -> Words {
     }
 }
 
-/// Document 01's trials, in its order and words.
+/// Theta's trials in the rules, in their order.
 fn trials() -> Vec<Words> {
     vec![
-        // v (0,1,0): a 0 gives the state back; the next number above 6.25 gives 4.
+        // v (0,1,0), a 0: the state that was given; a the next number above 6.25: 4.
         PLAIN.words([0.0, 1.0, 0.0], 0.0),
         PLAIN.words([0.0, 1.0, 0.0], beside(6.25, 1)),
         // v (1,1,0), a 1.5707963267948966: 12.

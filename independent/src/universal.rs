@@ -1,4 +1,4 @@
-//! Document 01, "The universal functions".
+//! RULES, The universal functions.
 
 /// U0 to U3 for some x and alpha.
 pub struct Functions {

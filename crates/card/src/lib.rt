@@ -1,4 +1,4 @@
-// A card: what the bytes of its body say, and the verdict on it. Document 01, "The deck".
+// A card: what the bytes of its body say, and the verdict on it. docs/RULES.md, The deck.
 //
 // A verdict depends on the kind and the body's bytes alone. What was sent is compared as words; what
 // is computed, is computed with the numbers that they stand for. Every function here is proved, the
@@ -73,7 +73,7 @@ impl Kind {
 }
 
 impl Fault {
-    // The number that document 01 gives it.
+    // Its number in the rules.
     pub fn number(self) -> u32
         ensures { λ r. ⌜ r ≡ faultNumber self ⌝ }
     {

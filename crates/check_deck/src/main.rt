@@ -1,5 +1,5 @@
-// Checks a deck: reads it from standard input and writes document 01's listing, "The check program's
-// listing". What the verdicts are, `deck` says.
+// Checks a deck: reads it from standard input and writes its listing (docs/RULES.md, The check
+// program's listing). What the verdicts are, `deck` says.
 use card::Kind;
 use card::Named;
 use deck::Answer;

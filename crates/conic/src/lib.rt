@@ -1,5 +1,5 @@
 // The conic: a problem, the scaled problem and what a prediction answers; and from the universal
-// functions at x back to a state. Document 01, "Unfolding", and the refusals of a prediction.
+// functions at x back to a state. docs/RULES.md, Unfolding, and the refusals of a prediction.
 //
 // Every public function is proved and total: its contract is an equation with a definition of
 // `specs/`, for every input, NaN and infinities included. The crate assumes nothing.
@@ -31,7 +31,7 @@ pub struct Problem {
     pub limit: u32,
 }
 
-// The scaled problem, in document 01's letters, with the state that unfolding starts from.
+// The scaled problem, in the letters of the rules, with the state that unfolding starts from.
 pub struct Scaled {
     pub s: f64,
     pub alpha: f64,
@@ -70,7 +70,7 @@ pub enum Reason {
 }
 
 impl Reason {
-    // The number that document 01 gives it.
+    // Its number in the rules.
     pub fn number(self) -> u32
         ensures { λ r. ⌜ r ≡ reasonNumber self ⌝ }
     {

@@ -1,4 +1,4 @@
-// From the universal functions back to a state: document 01, "Unfolding", with the tests for
+// From the universal functions back to a state: RULES, Unfolding, with the tests for
 // refusals 11 and 6 that every caller makes.
 use crate::Outcome;
 use crate::Reason;

@@ -1,4 +1,4 @@
-// The contents of a deck: refusals 30 to 38, in document 01's order.
+// The contents of a deck: refusals 30 to 38, in the order of the rules.
 use crate::Reason;
 use card::Kind;
 use card::Named;

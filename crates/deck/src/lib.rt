@@ -1,5 +1,5 @@
-// The deck: its contents tested in document 01's order, a verdict for each card, and the tally.
-// Document 01, "The deck".
+// The deck: its contents tested in the order of the rules, a verdict for each card, and the tally.
+// docs/RULES.md, The deck.
 //
 // `check` is proved and total: its answer and the verdict list afterwards are definitions of the
 // deck's bytes and the list before. A refused deck leaves the list as it was lent. The crate assumes
@@ -38,7 +38,7 @@ pub enum Reason {
 }
 
 impl Reason {
-    // The number that document 01 gives it.
+    // Its number in the rules.
     pub fn number(self) -> u32
         ensures { λ r. ⌜ r ≡ reasonNumber self ⌝ }
     {
@@ -64,7 +64,7 @@ pub struct Totals {
     pub rejected: u32,
 }
 
-// Mean and worst of |T - t| over the solved cards; absent, never zero, where there is none.
+// Mean and worst of |T - t| over the solved cards; absent, and not zero, where there is none.
 pub enum Residuals {
     Absent,
     Known { mean: f64, worst: f64 },
@@ -75,7 +75,7 @@ pub enum Answer {
     Refused(Reason),
 }
 
-// Checks a deck: one verdict a card goes into the lent list, whose places beyond the count keep their
+// Checks a deck: the verdict on each card goes into the lent list; the places behind keep their
 // values.
 pub fn check(deck: &[u8], verdicts: &mut [u32]) -> Answer
     ensures { λ r. ⌜ said r ≡ answerOf (now (deck .entry)) (length (now (verdicts .entry))) ⌝ }

@@ -1,6 +1,6 @@
-// The tests before the first guess, in the order of document 01's refusal table, and what they
-// compute on the way: the scaled problem and its starting bracket. Document 01, "From the state to the
-// scaled problem", and refusals 1 to 8 and 14.
+// The tests before the first guess, in the order of the rules' refusal table, and what they
+// compute on the way: the scaled problem and its starting bracket. docs/RULES.md, From the state to
+// the scaled problem, and refusals 1 to 8 and 14.
 //
 // Both public functions are proved and total: each contract is an equation with a definition of
 // `specs/Entry.antt`, for every input, NaN and infinities included. The crate assumes nothing.

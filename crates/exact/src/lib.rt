@@ -1,7 +1,7 @@
 // Binary64 numbers and their words: the ground floor.
 //
 // Every function here is proved and total: each contract is an equation with a definition of
-// `specs/Numbers.antt`, which renders document 01, "Numbers", and holds for every input, NaN and
+// `specs/Numbers.antt`, which renders docs/RULES.md, Numbers, and holds for every input, NaN and
 // infinities included. No function has a `requires`, and the crate assumes nothing.
 ghost use mathlib.Core.Path.{_≡_};
 ghost use Rattle.exact.specs.Numbers.{isFinite, magnitude, isNear, numberOf, wordOf};

@@ -1,4 +1,4 @@
-// Kepler: the state after a time. Document 01, "The search", over the tests of `entry` and the time
+// Kepler: the state after a time. docs/RULES.md, The search, over the tests of `entry` and the time
 // and unfolding of `conic`.
 //
 // `kepler` is proved and total: its contract is an equation with the definition of `specs/Kepler.antt`,

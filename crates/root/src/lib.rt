@@ -1,4 +1,4 @@
-// The square root of a binary64 number: the nearest, for every finite input not below zero.
+// The root of a finite binary64 number not below zero: the nearest. docs/RULES.md, Numbers 4.
 //
 // Every function here is proved, and the crate assumes nothing. `root` is total; the helpers below
 // it are private.
@@ -15,7 +15,7 @@ pub enum Reason {
 }
 
 impl Reason {
-    // The number that document 01 gives it.
+    // Its number in the rules.
     pub fn number(self) -> u32
         ensures { λ r. ⌜ r ≡ reasonNumber self ⌝ }
     {

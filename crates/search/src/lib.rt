@@ -1,4 +1,4 @@
-// How an unknown is searched for, apart from what is searched for: document 01, "The search".
+// How an unknown is searched for, apart from what is searched for: docs/RULES.md, The search.
 //
 // A search narrows a bracket: two points, each with its time, between which the wanted time lies.
 // What the time of a guess is, is the caller's; the caller's loop makes the guesses with the
@@ -41,7 +41,7 @@ pub fn contains(b: Bracket, x: f64) -> bool
     (b.lo.x <= x) & (x <= b.hi.x)
 }
 
-// The first guess: t where it lies in the bracket, ends included, else the middle.
+// The first guess: t where the bracket contains it, else the middle.
 pub fn first(b: Bracket, t: f64) -> f64
     ensures { λ r. ⌜ r ≡ firstGuess b t ⌝ }
 {

@@ -1,4 +1,4 @@
-// Theta: the state through an angle. Document 01, "Theta".
+// Theta: the state through an angle. docs/RULES.md, Theta.
 //
 // `theta` is proved and total: its contract is an equation with the definition of `specs/Theta.antt`.
 // The crate assumes nothing.

@@ -1,4 +1,4 @@
-// Predicts the state through an angle: reads 64-byte problems, document 01's mu, r, v and a as
+// Predicts the state through an angle: reads 64-byte problems, the rules' mu, r, v and a as
 // words, and writes a line for each. What the lines are, `listing` says.
 use listing::Question;
 

@@ -1,5 +1,5 @@
-// The universal functions U0..U3, and the time and radius ratio made of them. Document 01, "The
-// universal functions".
+// The universal functions U0..U3, and the time and radius ratio made of them. docs/RULES.md, The
+// universal functions.
 //
 // Every public function is proved and total: its contract is an equation with a definition of
 // `specs/`, for every input, NaN and infinities included. The crate assumes nothing.
