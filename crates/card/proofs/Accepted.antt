@@ -1,4 +1,4 @@
--- What verdict 0 means, and what gets it: document 01, demand 3. The tests of a card say it (`Tests`); the one on the times says that their exact
+-- What verdict 0 means, and what gets it: demand 3 of RULES. The tests of a card say it (`Tests`); the one on the times says that their exact
 -- gap is at most 2^-36 + 2^-89, and a gap of at most 2^-36 passes it.
 use mathlib.Core.Path.{_≡_, refl, sym, ap, subst}
 use mathlib.Core.Bool.{true, true≢false}

@@ -1,4 +1,4 @@
--- The kinds of cards and the fields of a body: document 01, "The deck". Definitions only.
+-- The kinds of cards and the fields of a body: RULES, The deck. Definitions only.
 use Prim.Native.Nat.{ℕ, _+_}
 use mathlib.Core.Bool.{cond}
 use mathlib.Core.List.{List}
@@ -17,11 +17,11 @@ pub record Card : Type 0 where
   pub kind : Kind
   pub body : List ℕ
 
--- "Kind 1, solved", "Kind 2, refused"; another number is refused with 34
+-- The deck 5 and 6: the kind that 1 or 2 names; another number is refused with 34
 unfoldable pub kindOf : ℕ → Checked Kind
 kindOf n = cond (eqb n 1) (pass kind.Solved) (cond (eqb n 2) (pass kind.Refused) (refuse 34))
 
--- "128 bytes", "80 bytes"
+-- The deck 5 and 6: the bytes of a body
 unfoldable pub sizeOf : Kind → ℕ
 sizeOf kind.Solved = 128
 sizeOf kind.Refused = 80
@@ -33,14 +33,14 @@ numberAt body at = numberOf (valueAt 8 body at)
 abbrev pub vectorAt : List ℕ → (at : ℕ) → Vector
 vectorAt body at = record { x = numberAt body at; y = numberAt body (at + 8); z = numberAt body (at + 16) }
 
--- "Problem, 72 bytes: mu, r, v, dt, limit u32, spare u32 = 0"
+-- The deck 4: mu, r, v, dt, limit u32, spare u32
 unfoldable pub problemOf : List ℕ → Problem
 problemOf body = record { mu = numberAt body 0; r = vectorAt body 8; v = vectorAt body 32; dt = numberAt body 56; limit = valueAt 4 body 64 }
 
 abbrev pub spareOf : List ℕ → ℕ
 spareOf body = valueAt 4 body 68
 
--- "Kind 1: problem, x, position, velocity": x, and where the other two begin
+-- The deck 5, behind the problem: x, and where position and velocity begin
 abbrev pub xOf : List ℕ → Float
 xOf body = numberAt body 72
 
@@ -50,7 +50,7 @@ positionAt = 80
 abbrev pub velocityAt : ℕ
 velocityAt = 104
 
--- "Kind 2: problem, refusal number u32, spare u32 = 0"
+-- The deck 6, behind the problem: the refusal's number and the last spare
 abbrev pub refusalOf : List ℕ → ℕ
 refusalOf body = valueAt 4 body 72
 

@@ -1,4 +1,4 @@
--- The card that a problem and Kepler's answer make: document 01, "The deck". A problem is given as the 68 bytes that stand before the spare.
+-- The card that a problem and Kepler's answer make: RULES, The deck. A problem is given as the 68 bytes that stand before the spare.
 -- Definitions only.
 use Prim.Native.Nat.{ℕ}
 use mathlib.Core.List.{List, [], _∷_, _++_}
@@ -16,19 +16,19 @@ unfoldable pub numbersBytes : List Float → List ℕ
 numbersBytes [] = []
 numbersBytes (x ∷ l) = bytesOf 8 (wordOf x) ++ numbersBytes l
 
--- "mu, r, v, dt, limit u32"
+-- The deck 4, before the spare
 abbrev pub problemBytes : Problem → List ℕ
 problemBytes p = numbersBytes (p .mu ∷ p .r .x ∷ p .r .y ∷ p .r .z ∷ p .v .x ∷ p .v .y ∷ p .v .z ∷ p .dt ∷ []) ++ bytesOf 4 (p .limit)
 
--- "spare u32 = 0"
+-- a spare: four bytes that are 0
 abbrev pub spare : List ℕ
 spare = bytesOf 4 0
 
--- "Kind 1, solved, 128 bytes: problem, x, position, velocity"
+-- The deck 5: problem, x, position, velocity, 128 bytes
 abbrev pub solvedBody : (given : List ℕ) → Float → State → List ℕ
 solvedBody given x state = given ++ (spare ++ numbersBytes (x ∷ state .r .x ∷ state .r .y ∷ state .r .z ∷ state .v .x ∷ state .v .y ∷ state .v .z ∷ []))
 
--- "Kind 2, refused, 80 bytes: problem, refusal number u32, spare u32 = 0"
+-- The deck 6: problem, the refusal's number, spare, 80 bytes
 abbrev pub refusedBody : (given : List ℕ) → ℕ → List ℕ
 refusedBody given k = given ++ (spare ++ (bytesOf 4 k ++ spare))
 

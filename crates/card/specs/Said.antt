@@ -1,4 +1,4 @@
--- What the answers say, in document 01's numbers and values. Definitions only.
+-- What the answers say, in the numbers and values of RULES, Verdicts. Definitions only.
 use Prim.Native.Nat.{ℕ}
 use lib.Ieee.{Float}
 use Rattle.rows.specs.Rows.{Checked, pass, refuse}
@@ -19,7 +19,7 @@ abbrev pub refusalIn : {A : Type 0} → Checked A → ℕ
 refusalIn (pass x) = 0
 refusalIn (refuse k) = k
 
--- "Verdict of a solved card", "Refused card": the numbers that are no refusal of a prediction
+-- Verdicts: the numbers that no prediction is refused with
 abbrev pub faultNumber : Fault → ℕ
 faultNumber fault.XOutside = 20
 faultNumber fault.TimeOff = 21
@@ -27,7 +27,7 @@ faultNumber fault.StateDiffers = 22
 faultNumber fault.SpareNotZero = 23
 faultNumber fault.NumberDiffers = 24
 
--- "solved (kind 1, verdict 0)", with the residual |T - t|; "refused (kind 2, verdict 0)"; "rejected (verdict not 0)"
+-- Tally 1: accepted as solved, with the residual |T - t|; accepted as refused; rejected, with a number that is not 0
 pub data Said : Type 0 where
   solved : (residual : Float) → Said
   refused : Said

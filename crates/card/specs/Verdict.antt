@@ -1,4 +1,4 @@
--- The verdict on a card, from its kind and the bytes of its body alone: document 01, "The deck". Definitions only.
+-- The verdict on a card, from its kind and the bytes of its body alone: RULES, Verdicts. Definitions only.
 use Prim.Native.Nat.{ℕ, _+_}
 use mathlib.Core.Bool.{Bool, false, _&&_}
 use mathlib.Core.List.{List}
@@ -29,14 +29,14 @@ sameWords body at a = eqb (valueAt 8 body at) (wordOf (a .x)) && eqb (valueAt 8 
 abbrev pub sameState : List ℕ → State → Bool
 sameState body state = sameWords body positionAt (state .r) && sameWords body velocityAt (state .v)
 
--- "11; 6 unfolding not finite; 22 state bits differ; else 0"
+-- Verdicts 6 to 8: 11 and 6, as at every arrival; then 22, where a bit of the state differs from what x unfolds to
 unfoldable pub unfoldsTo : List ℕ → Scaled → (x residual : Float) → Checked Float
 unfoldsTo body o x residual =
     onward (arrivalAt o x) (λ state.
     must (sameState body state) 22
     (pass residual))
 
--- "20 x not finite or outside the starting bracket, ends being inside; 6 T(x) not finite; 21 |T - t| > 2^-36"; the residual is |T - t|
+-- Verdicts 3 to 5: 20, 6 and 21, in this order; the residual is |T - t|
 unfoldable pub atX : List ℕ → Scaled → Bracket → Checked Float
 atX body o b =
     let x = xOf body in
@@ -46,8 +46,8 @@ atX body o b =
     (must (isNear time (o .t)) 21
     (unfoldsTo body o x (magnitude (time ⊖ o .t)))))
 
--- "Verdict of a solved card, first that holds: 23 spare not 0; the problem's own refusal 1 to 8 or 14, by the tests before the first guess
--- alone", and the tests above
+-- Verdicts 1 and 2: 23; then the refusal of the card's own problem, by the tests before the first guess; and the tests above. The first that
+-- holds is the verdict
 unfoldable pub solvedCard : List ℕ → Checked Float
 solvedCard body =
     must (eqb (spareOf body) 0) 23
@@ -60,7 +60,7 @@ isRefusedWith (conic.solved x n state) k = false
 isRefusedWith (conic.refused why n) k = eqb why k
 isRefusedWith (conic.refusedWithBracket why n lo hi) k = eqb why k
 
--- "Refused card: 23; 24 if Kepler doesn't give that number; else 0"
+-- Verdicts 9 to 11: 23 for either spare; 24 where Kepler does not give the card's number; else accepted
 unfoldable pub refusedCard : List ℕ → Checked (Unit {0})
 refusedCard body =
     must (eqb (spareOf body) 0 && eqb (lastSpareOf body) 0) 23

@@ -1,4 +1,4 @@
--- What the answers say, in document 01's numbers and values. Definitions only.
+-- What the answers say, in the numbers and values of RULES, Refusal numbers. Definitions only.
 use Prim.Native.Nat.{ℕ}
 use lib.Ieee.{Float}
 use Rattle.conic.specs.declared.State.{State}
@@ -10,7 +10,7 @@ use Rattle.conic.specs.declared.unfolding.Arrival.{Arrival}
 use Rattle.conic.specs.declared.unfolding.Arrival.the-variants as arrival
 use Rattle.rows.specs.Rows.{Checked, pass, refuse}
 
--- "Refusal numbers"
+-- the number that the table gives to each reason
 abbrev pub reasonNumber : Reason → ℕ
 reasonNumber why.InputNotFinite = 1
 reasonNumber why.MuNotPositive = 2
@@ -26,7 +26,7 @@ reasonNumber why.TooNearCentre = 11
 reasonNumber why.TowardsInfinity = 12
 reasonNumber why.RootRefused = 14
 
--- "The outcome is one answer with a case for solved (x, count, state), a case for refused and a case for refused with bracket": a refusal's
+-- Refusal numbers 2 and 3: the three cases of an outcome. Solved has x, count and state; a refusal its
 -- number and count, and with 9 and 10 the bracket's two ends
 pub data Said : Type 0 where
   solved : Float → ℕ → State → Said

@@ -1,4 +1,4 @@
--- Time and radius ratio of a scaled problem: document 01, "The universal functions". Definitions only.
+-- Time and radius ratio of a scaled problem: RULES, The universal functions 6 and 7. Definitions only.
 use lib.Ieee.{Float}
 use Rattle.universal.specs.Functions.{functionsAt, timeOf, ratioOf}
 use Rattle.conic.specs.declared.Scaled.{Scaled}

@@ -1,4 +1,4 @@
--- From the functions to a state: document 01, "Unfolding", and what "The search", step 2, and Theta test there. Definitions only.
+-- From the functions to a state: RULES, Unfolding, and what The search 2 and Theta test there. Definitions only.
 use mathlib.Core.Bool.{_&&_}
 use lib.Ieee.{Float, le, neg}
 use Rattle.exact.specs.Numbers.{_⊕_, _⊖_, _⊗_, _⊘_, numberOf, one}
@@ -9,7 +9,7 @@ use Rattle.conic.specs.Vectors.{allFinite, multiple, combined}
 use Rattle.universal.specs.Functions.{functionsAt}
 use Rattle.conic.specs.TimeAndRatio.{ratioAt}
 
--- "F = 1 - U2; G = U1 + s*U2; Ft = ((-U1)/R)/f4; Gt = 1 - U2/R. Position = r*F + (v*f4)*G, velocity = r*Ft + v*Gt"
+-- Unfolding 1 and 2
 unfoldable pub unfolded : Scaled → (u1 u2 ratio : Float) → State
 unfolded o u1 u2 ratio =
     let f = one ⊖ u2 in
@@ -22,7 +22,7 @@ unfolded o u1 u2 ratio =
 abbrev pub leastRatio : Float
 leastRatio = numberOf 0x3f50_0000_0000_0000
 
--- "R below 2^-10 or not a number, refusal 11; unfold; a component not finite, refusal 6"
+-- The search 2: 11 where R is below 2^-10 or not a number; 6 where a component of what is unfolded is not finite
 unfoldable pub arrivalOf : Scaled → (u1 u2 ratio : Float) → Checked State
 arrivalOf o u1 u2 ratio =
     let state = unfolded o u1 u2 ratio in

@@ -1,4 +1,4 @@
--- Vectors by component: document 01, "From the state to the scaled problem" and "Unfolding". Definitions only.
+-- Vectors by component: RULES, From the state to the scaled problem, and Unfolding. Definitions only.
 use mathlib.Core.Bool.{Bool, _&&_}
 use lib.Ieee.{Float}
 use Rattle.exact.specs.Numbers.{_⊕_, _⊗_, isFinite}

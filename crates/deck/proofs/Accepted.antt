@@ -49,7 +49,7 @@ accepted-means deck room verdicts h =
       as-many-verdicts = sym (ap length is) ∙ length-map (C .0) (λ (c : Card). verdictOn (c .kind) (c .body)) ∙ many;
     }
 
--- "The three add up to the count", which the list has room for
+-- the three totals add up to the count, which the list has room for
 pub record TotalsFit (deck : List ℕ) (room : ℕ) (totals : Totals) : Type 0 where
   pub add-up : totals .solved + totals .refused + totals .rejected ≡ countOf deck
   pub few : countOf deck ≤ 256
@@ -79,7 +79,7 @@ pub refused-keeps : (deck list : List ℕ) (k : ℕ) → answerOf deck (length l
 unfolding answerOf listAfter
 refused-keeps deck list k h = kept list (judgedOf deck (length list)) k h
 
--- "An accepted deck writes one verdict a card; places beyond the count keep their values."
+-- the verdicts go into the first places, and the places behind keep their values
 pub accepted-writes : (deck list : List ℕ) (verdicts : List Said) → judgedOf deck (length list) ≡ pass verdicts
     → (take (countOf deck) (listAfter deck list) ≡ map numberIn verdicts) × (drop (countOf deck) (listAfter deck list) ≡ drop (countOf deck) list)
 unfolding listAfter

@@ -1,4 +1,4 @@
--- What the check of a deck comes to, and the verdict list afterwards: document 01, "The deck". Definitions only.
+-- What the check of a deck comes to, and the verdict list afterwards: RULES, The deck. Definitions only.
 use Prim.Native.Nat.{ℕ}
 use mathlib.Core.List.{List, _++_, map}
 use lib.Dec.{leb}
@@ -19,7 +19,7 @@ verdictsOf cards = map (λ (c : Card). verdictOn (c .kind) (c .body)) cards
 abbrev pub judgedFrom : List ℕ → (count : ℕ) → Checked (List Said)
 judgedFrom deck count = onward (cardsFrom deck count 0 (entryAt count)) (λ cards. pass (verdictsOf cards))
 
--- the refusals of the contents, then "39 verdict list shorter than count"; a deck that passes is accepted
+-- the refusals of the contents, then 39, where the list has fewer places than there are cards; a deck that passes is accepted
 unfoldable pub judgedOf : List ℕ → (room : ℕ) → Checked (List Said)
 judgedOf deck room =
     onward (cardsOf deck) (λ cards.
@@ -33,7 +33,7 @@ tallied m = onward m (λ verdicts. pass (tallyOf verdicts))
 unfoldable pub answerOf : List ℕ → (room : ℕ) → Checked (Totals × Residuals)
 answerOf deck room = tallied (judgedOf deck room)
 
--- "An accepted deck writes one verdict a card; places beyond the count keep their values." A refused deck leaves the list as it was lent.
+-- The deck 8: the verdicts go into the first places, and the places behind keep their values. A refused deck leaves the list as it was lent.
 abbrev pub written : Checked (List Said) → List ℕ → List ℕ
 written (pass verdicts) list = map numberIn verdicts ++ drop (length verdicts) list
 written (refuse k) list = list

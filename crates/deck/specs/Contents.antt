@@ -1,4 +1,4 @@
--- The contents of a deck, and its cards: document 01, "The deck". Definitions only.
+-- The contents of a deck, and its cards: RULES, The deck. Definitions only.
 use Prim.Native.Nat.{ℕ, zero, suc, _+_, _*_}
 use mathlib.Core.List.{List, [], _∷_}
 use lib.Dec.{eqb, leb}
@@ -8,7 +8,7 @@ use Rattle.rows.specs.Rows.{Checked, pass, refuse, must, onward}
 use Rattle.card.specs.declared.Kind.{Kind}
 use Rattle.card.specs.Fields.{Card, kindOf, sizeOf}
 
--- "Version u32 = 1, count u32 ≤ 256, then per card kind, offset, length (u32 each)": where entry i begins, and the bodies after the last one
+-- The deck 1 to 3: version and count, then an entry of three u32 for each card: where entry i begins, and the bodies after the last one
 abbrev pub entryAt : ℕ → ℕ
 entryAt i = 8 + 12 * i
 
@@ -18,7 +18,7 @@ versionOf deck = valueAt 4 deck 0
 abbrev pub countOf : List ℕ → ℕ
 countOf deck = valueAt 4 deck 4
 
--- the three fields of entry i; "34 kind"
+-- The deck 2: the three fields of entry i; 34 where the kind is unknown
 abbrev pub kindAt : List ℕ → (i : ℕ) → Checked Kind
 kindAt deck i = kindOf (valueAt 4 deck (entryAt i))
 
@@ -28,7 +28,7 @@ offsetAt deck i = valueAt 4 deck (entryAt i + 4)
 abbrev pub lengthAt : List ℕ → (i : ℕ) → ℕ
 lengthAt deck i = valueAt 4 deck (entryAt i + 8)
 
--- entry i, where the last body ended at `at`: "34 kind, 35 length, 36 offset not where the last body ended, 37 body past the end"
+-- entry i, where the last body ended at `at`: 34, 35, 36, 37, in this order
 unfoldable pub entryIn : List ℕ → (i at : ℕ) → Checked Kind
 entryIn deck i at =
     onward (kindAt deck i) (λ kind.
@@ -37,7 +37,7 @@ entryIn deck i at =
     (must (leb (at + sizeOf kind) (length deck)) 37
     (pass kind))))
 
--- the cards from entry i on, `left` of them, with "the bodies, in order, without gaps" from `at` on. "Then 38 bytes left over"
+-- the cards from entry i on, `left` of them. The deck 3: each body stands where the last one ended, from `at` on. After the last entry: 38
 unfoldable pub cardsFrom : List ℕ → (left i at : ℕ) → Checked (List Card)
 cardsFrom deck zero i at = must (eqb at (length deck)) 38 (pass [])
 cardsFrom deck (suc left) i at =
@@ -45,7 +45,7 @@ cardsFrom deck (suc left) i at =
     onward (cardsFrom deck left (i + 1) (at + sizeOf kind)) (λ rest.
     pass (record { kind = kind; body = take (sizeOf kind) (drop at deck) } ∷ rest)))
 
--- "30 under 8 bytes; 31 version; 32 count over 256; 33 contents past the end. Then by entry", with the bodies "from byte 8 + 12*count"
+-- 30, 31, 32, 33, then entry by entry. The deck 3: the first body stands at byte 8 + 12*count
 unfoldable pub cardsOf : List ℕ → Checked (List Card)
 cardsOf deck =
     let count = countOf deck in

@@ -1,4 +1,4 @@
--- What the answers say, in document 01's numbers and values. Definitions only.
+-- What the answers say, in the numbers and values of RULES, The deck. Definitions only.
 use Prim.Native.Nat.{ℕ}
 use Rattle.rows.specs.Rows.{Checked, pass, refuse}
 use Rattle.card.specs.declared.Kind.{Kind}
@@ -15,7 +15,7 @@ use Rattle.deck.specs.declared.contents.Contents.{Contents}
 use Rattle.deck.specs.declared.contents.Contents.the-variants as contents
 use Rattle.deck.specs.Tally.{Residuals, absent, known}
 
--- "Refused decks"
+-- the number that the table of refused decks gives to each reason
 abbrev pub reasonNumber : Reason → ℕ
 reasonNumber why.TooShort = 30
 reasonNumber why.OtherVersion = 31

@@ -1,4 +1,4 @@
--- The tally of a deck's verdicts: document 01, "Tally". Definitions only.
+-- The tally of a deck's verdicts: RULES, Tally. Definitions only.
 use Prim.Native.Nat.{_+_}
 use mathlib.Core.Bool.{cond}
 use mathlib.Core.List.{List, [], _∷_}
@@ -18,13 +18,13 @@ nothing = record { solved = 0; refused = 0; rejected = 0; sum = nought; worst = 
 abbrev pub larger : Float → Float → Float
 larger a b = cond (lt a b) b a
 
--- "solved (kind 1, verdict 0), refused (kind 2, verdict 0), rejected (verdict not 0)"; a solved card alone has a residual, |T - t|
+-- Tally 1: a card counts as solved, refused or rejected; a solved one alone has a residual, |T - t|
 abbrev pub counted : Running → Said → Running
 counted n (solved residual) = record { solved = n .solved + 1; refused = n .refused; rejected = n .rejected; sum = n .sum ⊕ residual; worst = larger (n .worst) residual }
 counted n refused = record { solved = n .solved; refused = n .refused + 1; rejected = n .rejected; sum = n .sum; worst = n .worst }
 counted n (rejected k) = record { solved = n .solved; refused = n .refused; rejected = n .rejected + 1; sum = n .sum; worst = n .worst }
 
--- "in deck order"
+-- Tally 2: in deck order
 unfoldable pub countedAll : Running → List Said → Running
 countedAll n [] = n
 countedAll n (v ∷ vs) = countedAll (counted n v) vs
@@ -34,8 +34,8 @@ pub data Residuals : Type 0 where
   absent : Residuals
   known : (mean worst : Float) → Residuals
 
--- "The mean is the sum of |T - t| over solved cards in deck order, divided by their number; the worst is the largest. With no solved card both
--- are absent, never zero."
+-- Tally 2 and 3: the mean is the sum of the residuals over the number of solved cards, the worst their largest; where no card is solved
+-- neither exists
 unfoldable pub residualsOf : Running → Residuals
 residualsOf n = cond (eqb (n .solved) 0) absent (known (n .sum ⊘ ofInt binary64 (pos (n .solved))) (n .worst))
 

@@ -1,5 +1,5 @@
--- The tests before the first guess and what they compute: document 01, "From the state to the scaled problem" and "Refusal numbers, in order
--- of test". Definitions only.
+-- The tests before the first guess and what they compute: RULES, From the state to the scaled problem ("scaling" below), and Refusal
+-- numbers, in order of test. Definitions only.
 use mathlib.Core.Bool.{Bool, cond, not, _&&_}
 use lib.Dec.{leb}
 use lib.Ieee.{Float, lt, le, ne, neg}
@@ -15,22 +15,22 @@ use Rattle.rows.specs.Rows.{Checked, pass, refuse, must, onward}
 use Rattle.conic.specs.Vectors.{allFinite, multiple}
 use Rattle.conic.specs.TimeAndRatio.{timeAt}
 
--- 1. "an input number is NaN or infinite": none is. The last is the time or the angle.
+-- refusal 1: every number given is finite. The last is the time or the angle.
 abbrev pub givenFinite : (mu : Float) (r v : Vector) (last : Float) → Bool
 givenFinite mu r v last = isFinite mu && allFinite r && allFinite v && isFinite last
 
--- 1, then 2. "mu ≤ 0": the tests that Kepler and Theta begin with
+-- 1, then 2, mu ≤ 0: the tests that Kepler and Theta begin with
 unfoldable pub inputsTested : (mu : Float) (r v : Vector) (last : Float) → Checked (Unit {0})
 inputsTested mu r v last =
     must (givenFinite mu r v last) 1
     (must (lt nought mu) 2
     (pass tt))
 
--- not "zero or not finite"
+-- neither zero nor NaN nor infinite
 abbrev pub isUsable : Float → Bool
 isUsable x = isFinite x && ne x nought
 
--- 14. "a root inside Kepler or Theta was refused"
+-- refusal 14: a root on the way was refused
 abbrev pub fromRoot : root.Said → Checked Float
 fromRoot (root.root x) = pass x
 fromRoot (root.refused k) = refuse 14
@@ -38,11 +38,11 @@ fromRoot (root.refused k) = refuse 14
 unfoldable pub rooted : Float → Checked Float
 rooted x = fromRoot (rootOf x)
 
--- "dot adds three products in order"
+-- the dot of two vectors: three products, added in order
 abbrev pub dot : Vector → Vector → Float
 dot a b = a .x ⊗ b .x ⊕ a .y ⊗ b .y ⊕ a .z ⊗ b .z
 
--- r0 = root(r·r). 5. "r·r or r0 is zero or not finite"
+-- scaling 1: r0 = root(r·r). Refusal 5 where r·r or r0 is not usable
 unfoldable pub radiusOf : Vector → Checked Float
 radiusOf r =
     must (isUsable (dot r r)) 5
@@ -50,7 +50,7 @@ radiusOf r =
     must (isUsable r0) 5
     (pass r0)))
 
--- f1 = root(r0/mu); f4 = r0*f1. 6. "r0/mu (tested before its root), f1 or f4 is zero or not finite"
+-- scaling 2 and 3: f1 = root(r0/mu); f4 = r0*f1. Refusal 6 where r0/mu, before its root, or f1 or f4 is not usable
 unfoldable pub unitOf : (mu r0 : Float) → Checked (Float × Float)
 unitOf mu r0 =
     must (isUsable (r0 ⊘ mu)) 6
@@ -62,7 +62,7 @@ unitOf mu r0 =
 abbrev pub straight : Float
 straight = numberOf 0x3eb0_0000_0000_0000
 
--- 6. "w, s, q, alpha, p, t not finite", from s on. 7. "p < 2^-20 (straight line)"
+-- refusal 6 where one of s, q, alpha, p, t is not finite; 7, a straight line, where p < 2^-20
 unfoldable pub testedBy : (q : Float) → Scaled → Checked Scaled
 testedBy q o =
     must (isFinite (o .s) && isFinite q && isFinite (o .alpha) && isFinite (o .p) && isFinite (o .t)) 6
@@ -73,7 +73,7 @@ testedBy q o =
 abbrev pub over : Vector → Float → Vector
 over a k = record { x = a .x ⊘ k; y = a .y ⊘ k; z = a .z ⊘ k }
 
--- "u = r/r0 and w = f1*v by component; s = u·w; q = w·w; alpha = 2 - q; p = q - s*s; t = dt/f4". 6. for w, and the tests above
+-- scaling 4 to 9. Refusal 6 where w is not finite, and the tests above
 unfoldable pub scaledBy : (r v : Vector) (dt r0 f1 f4 : Float) → Checked Scaled
 scaledBy r v dt r0 f1 f4 =
     let u = over r r0 in
@@ -99,18 +99,18 @@ sixtyFour = numberOf 0x4050_0000_0000_0000
 abbrev pub eight : Float
 eight = numberOf 0x4020_0000_0000_0000
 
--- "Far end X = 64 if |alpha| ≤ 1/64, else 8/root(|alpha|)"
+-- scaling 10: X is 64 where |alpha| ≤ 1/64, else 8/root(|alpha|)
 unfoldable pub farEndOf : (alpha : Float) → Checked Float
 farEndOf alpha = cond (le (magnitude alpha) sixtyFourth) (pass sixtyFour) (onward (rooted (magnitude alpha)) (λ k. pass (eight ⊘ k)))
 
--- "Starting bracket: 0 to X if t ≥ 0, else -X to 0." "The time kept for the end 0 is 0, for X or -X its T."
+-- scaling 11: 0 to X where t ≥ 0, else -X to 0. The search: the time kept for the end 0 is 0, that of the far end its T
 abbrev pub zeroEnd : Point
 zeroEnd = record { x = nought; time = nought }
 
 abbrev pub startingBracket : (t : Float) (far : Point) → Bracket
 startingBracket t far = cond (le nought t) (record { lo = zeroEnd; hi = far }) (record { lo = far; hi = zeroEnd })
 
--- 6. "T at the far end not finite", "tested after 7 and just before 8". 8. "t ≥ 0 and T(X) < t, or t < 0 and T(-X) > t"
+-- Refusal numbers 1: 6 where T at the far end is not finite, right before 8. 8: t ≥ 0 and T(X) < t, or t < 0 and T(-X) > t
 unfoldable pub bracketedBy : Scaled → (far : Float) → Checked (Scaled × Bracket)
 bracketedBy o far =
     let t = o .t in
@@ -122,7 +122,7 @@ bracketedBy o far =
 unfoldable pub startOf : Scaled → Checked (Scaled × Bracket)
 startOf o = onward (farEndOf (o .alpha)) (λ x. bracketedBy o (cond (le nought (o .t)) x (neg x)))
 
--- Kepler: 1, 2, then 3. "limit not 1..100", and the tests above
+-- Kepler: 1, 2, then 3 where the limit is none of 1..100, and the tests above
 unfoldable pub entryOf : Problem → Checked (Scaled × Bracket)
 entryOf p =
     onward (inputsTested (p .mu) (p .r) (p .v) (p .dt)) (λ good.
@@ -132,7 +132,7 @@ entryOf p =
 abbrev pub largestAngle : Float
 largestAngle = numberOf 0x4019_0000_0000_0000
 
--- Theta: 1, 2, then 4. "|a| > 6.25", and the tests above but for t and the far end, which it has not: with dt 0, t is 0
+-- Theta: 1, 2, then 4, |a| > 6.25, and the tests above but for t and the far end, which it has not: with dt 0, t is 0
 unfoldable pub angleEntryOf : (mu : Float) (r v : Vector) (a : Float) → Checked Scaled
 angleEntryOf mu r v a =
     onward (inputsTested mu r v a) (λ good.

@@ -1,4 +1,4 @@
--- What the answers of the entry tests say, in document 01's numbers and values. Definitions only.
+-- What the answers of the entry tests say, in the numbers and values of RULES, Refusal numbers. Definitions only.
 use lib.Ieee.{Float}
 use Rattle.search.specs.declared.Bracket.{Bracket}
 use Rattle.rows.specs.Rows.{Checked, pass, refuse}

@@ -1,11 +1,11 @@
--- The numbers with which everything is written: document 01, "Numbers". Definitions only.
+-- The numbers with which everything is written: RULES, Numbers. Definitions only.
 -- A binary64 value is the library's `Float`: `nan`, `inf s`, or `fin s m e`, which is m * 2 ^ e with the sign s.
 use Prim.Native.Nat.{ℕ, _+_, _-_, _*_, _/_, _^_}
 use mathlib.Core.Bool.{Bool, true, false, cond, Bool·beq}
 use lib.Dec.{T}
 use lib.Ieee.{Float, nan, inf, fin, Format, binary64, low, up, down, add, sub, mul, div, le, fits, ofBits, toBits}
 
--- "each + - * / rounds once to nearest even", "left to right unless brackets say otherwise"
+-- Numbers 1 and 2: each operation is rounded once, to nearest even; from the left, where no brackets stand
 infixl 65 _⊕_ _⊖_
 infixl 70 _⊗_ _⊘_
 abbrev pub _⊕_ : Float → Float → Float
@@ -38,7 +38,7 @@ one = numberOf 0x3ff0_0000_0000_0000
 abbrev pub two : Float
 two = numberOf 0x4000_0000_0000_0000
 
--- 2^-36, the tolerance of scaled time ("The search", step 2)
+-- 2^-36, the tolerance of scaled time (The search 2)
 abbrev pub tolerance : Float
 tolerance = numberOf 0x3db0_0000_0000_0000
 
@@ -62,11 +62,11 @@ magnitude (fin s m e) = fin false m e
 unfoldable pub isNear : Float → Float → Bool
 isNear x y = le (magnitude (x ⊖ y)) tolerance
 
--- the middle of two numbers ("The search")
+-- the middle of two numbers (The search)
 abbrev pub middle : Float → Float → Float
 middle lo hi = lo ⊕ (hi ⊖ lo) ⊘ two
 
--- ---- "Every finite binary64 number is a whole multiple of 2^-1074; state exact differences over whole numbers so."
+-- ---- Numbers 6: a finite binary64 number is a whole number of steps of 2^-1074, and exact differences are said in them
 
 -- whether the sign is minus
 abbrev pub isMinus : Float → Bool

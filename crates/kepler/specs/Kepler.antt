@@ -1,4 +1,4 @@
--- Kepler: the tests before the first guess, the search for x, and what its end comes to. Document 01, "The search". Definitions only.
+-- Kepler: the tests before the first guess, the search for x, and what its end comes to. RULES, The search. Definitions only.
 use Prim.Native.Nat.{ℕ}
 use lib.Ieee.{Float}
 use Rattle.search.specs.declared.Bracket.{Bracket}
@@ -12,11 +12,11 @@ use Rattle.conic.specs.TimeAndRatio.{timeAt}
 use Rattle.conic.specs.Unfolding.{arrivalAt}
 use Rattle.entry.specs.Entry.{entryOf}
 
--- 2. "R below 2^-10 or not a number, refusal 11; unfold; a component not finite, refusal 6; else solved"
+-- The search 2, where x was found: 11, 6, or solved
 unfoldable pub arrivedAt : Scaled → Float → ℕ → Said
 arrivedAt o x n = withState x n (arrivalAt o x)
 
--- "A refusal carries its number, the count so far, and with 9 and 10 the bracket."
+-- Refusal numbers 2: number and count, and with 9 and 10 the bracket
 abbrev pub outcomeOf : Scaled → search.Ending → Said
 outcomeOf o (search.solved x n) = arrivedAt o x n
 outcomeOf o (search.closed b n) = refusedWithBracket 9 n (b .lo .x) (b .hi .x)
@@ -27,7 +27,7 @@ outcomeOf o (search.lost n) = refused 6 n
 unfoldable pub foundIn : Scaled → (limit : ℕ) → Bracket → search.Ending
 foundIn o limit b = searchOf (timeAt o) (o .t) limit b
 
--- a problem that passes the tests is searched; "0 before the first guess"
+-- a problem that passes the tests is searched; before the first guess the count is 0
 abbrev pub afterEntry : (limit : ℕ) → Checked (Scaled × Bracket) → Said
 afterEntry limit (pass e) = outcomeOf (e .0) (foundIn (e .0) limit (e .1))
 afterEntry limit (refuse k) = refused k 0

@@ -34,7 +34,7 @@ abbrev pub meanOf : Residuals → Float
 meanOf absent = nan
 meanOf (known mean worst) = mean
 
--- the answer on a deck: "Tally", or "Refused decks"
+-- the answer on a deck: its mean (RULES, Tally), or its refusal (The deck)
 abbrev pub meanIn : Checked (Totals × Residuals) → Float
 meanIn (pass tally) = meanOf (tally .1)
 meanIn (refuse k) = minusNumber k

@@ -1,4 +1,4 @@
--- The theorems on the root. The definition's root has the property that document 01 asks for (`definition-holds`): it is the nearest among
+-- The theorems on the root. The definition's root has the property that the rules state (`definition-holds`): it is the nearest among
 -- all finite binary64 numbers, by comparing squares. Two results with the property coincide (`one-root`). So contract and property are
 -- the same statement, on every input (`contract-is-property`). And `said` is one to one (`said-once`), so that the contract has one answer.
 use mathlib.Core.Path.{_≡_, refl, sym, ap, _∙_, subst}

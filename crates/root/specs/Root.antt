@@ -1,4 +1,4 @@
--- The root: document 01, "Numbers", and refusals 1 and 13. Definitions only.
+-- The root: RULES, Numbers 4 and 5, and refusals 1 and 13. Definitions only.
 use mathlib.Core.Path.{_≡_}
 use mathlib.Core.Bool.{not, false, cond}
 use Prim.Native.Nat.{ℕ, _+_, _-_, _*_, _^_, _<_}
@@ -12,7 +12,7 @@ use Rattle.root.specs.Whole.{wholeRoot}
 unfoldable pub radicand : Float → ℕ
 radicand x = steps binary64 x * 2 ^ 1074
 
--- "the binary64 number nearest the exact square root": the whole part of the root, in steps, and half a step, rounded. Midway between two
+-- Numbers 4, the binary64 number nearest the exact root: the whole part of the root, in steps, and half a step, rounded. Midway between two
 -- binary64 numbers of that size lies a whole number of steps, so the half stands on the side of it on which the root does.
 unfoldable pub nearestRoot : Float → Float
 nearestRoot x = round binary64 false (2 * wholeRoot 1586 (radicand x) + 1) (2 * 2 ^ 1074)
@@ -21,7 +21,7 @@ nearestRoot x = round binary64 false (2 * wholeRoot 1586 (radicand x) + 1) (2 * 
 unfoldable pub rootOf : Float → Said
 rootOf x = cond (isFinite x) (cond (lt x nought) (refused 13) (cond (eq x nought) (root x) (root (nearestRoot x)))) (refused 1)
 
--- ---- "State this over whole numbers by comparing squares."
+-- ---- Numbers 5: nearest, over whole numbers, by comparing squares
 
 -- y + r in steps, for an r above zero; 0 where the sum is below zero
 unfoldable pub sumInSteps : Float → Float → ℕ

@@ -1,4 +1,4 @@
--- What an answer of the root says, in document 01's numbers and values. Definitions only.
+-- What an answer of the root says, in the numbers and values of RULES, Refusal numbers. Definitions only.
 use Prim.Native.Nat.{ℕ}
 use lib.Ieee.{Float}
 use Rattle.root.specs.declared.Reason.{Reason}
@@ -6,7 +6,7 @@ use Rattle.root.specs.declared.Reason.the-variants.{NotFinite, BelowZero
 use Rattle.root.specs.declared.Answer.{Answer}
 use Rattle.root.specs.declared.Answer.the-variants.{Root, Refused}
 
--- "Refusal numbers": 1, an input number is NaN or infinite; 13, root alone: input finite and below zero
+-- 1 for NaN and the infinities; 13 for a finite number below zero
 abbrev pub reasonNumber : Reason → ℕ
 reasonNumber NotFinite = 1
 reasonNumber BelowZero = 13

@@ -1,4 +1,4 @@
--- How a row of tests reads: in the paper's order, and the first that does not hold refuses with its number. Definitions only.
+-- How a row of tests reads: in the rules' order, and the first that does not hold refuses with its number. Definitions only.
 use Prim.Native.Nat.{ℕ}
 use mathlib.Core.Bool.{Bool, true, false}
 

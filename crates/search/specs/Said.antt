@@ -7,7 +7,7 @@ use Rattle.search.specs.declared.Step.the-variants as step
 use Rattle.search.specs.declared.Found.{Found}
 use Rattle.search.specs.declared.Found.the-variants as found
 
--- "The search", step 5: the next guess, or none
+-- The search 5: the next guess, or none
 pub data Try : Type 0 where
   guess : Float → Try
   noGuess : Try

@@ -1,4 +1,4 @@
--- Through an angle: document 01, "Theta". Definitions only.
+-- Through an angle: RULES, Theta. Definitions only.
 use lib.Ieee.{Float, le}
 use Rattle.exact.specs.Numbers.{_⊕_, _⊖_, _⊗_, _⊘_, numberOf, one, two}
 use Rattle.conic.specs.declared.State.{State}
@@ -14,11 +14,11 @@ use Rattle.entry.specs.Entry.{rooted, angleEntryOf}
 abbrev pub leastDen : Float
 leastDen = numberOf 0x3f50_0000_0000_0000
 
--- "den = 1 + (p-1)*(1-2*sh*sh) - s*k*(2*sh*ch)"
+-- Theta 3
 abbrev pub denOf : (s p k sh ch : Float) → Float
 denOf s p k sh ch = one ⊕ (p ⊖ one) ⊗ (one ⊖ two ⊗ sh ⊗ sh) ⊖ s ⊗ k ⊗ (two ⊗ sh ⊗ ch)
 
--- 12. "den < 2^-10 or not a number". "R = p/den; U2 = 2*(R/p)*sh*sh; U1 = 2*R*sh*(ch - s*sh/k)/k. Unfold as above."
+-- refusal 12 where den is below 2^-10 or not a number. Theta 4 to 7: R = p/den; U2 = 2*(R/p)*sh*sh; U1 = 2*R*sh*(ch - s*sh/k)/k; unfold
 unfoldable pub reachedState : Scaled → (k sh ch : Float) → Checked State
 reachedState o k sh ch =
     let s = o .s in
@@ -30,12 +30,12 @@ reachedState o k sh ch =
     must (le leastDen den) 12
     (arrivalOf o u1 u2 ratio)
 
--- "From the functions with alpha 1 and x = a/2: sh = U1, ch = U0. k = root(p)"
+-- Theta 1 and 2: sh = U1 and ch = U0 with alpha 1 at a/2; k = root(p)
 unfoldable pub turnedState : Scaled → (a : Float) → Checked State
 turnedState o a =
     let half = functionsAt (a ⊘ two) one in
     onward (rooted (o .p)) (λ k. reachedState o k (half .u1) (half .u0))
 
--- "For a solved Theta, x holds the angle a and count is 0."
+-- Theta 7: the angle stands as x, and the count is 0
 unfoldable pub thetaOf : (mu : Float) (r v : Vector) (a : Float) → Said
 thetaOf mu r v a = withState a 0 (onward (angleEntryOf mu r v a) (λ o. turnedState o a))

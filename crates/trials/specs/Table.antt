@@ -1,4 +1,4 @@
--- The trials that document 01 marks P ("Trials"), in its order: one table, a line a trial. Definitions only.
+-- The trials that RULES, Trials, marks P, in its order: one table, a line a trial. Definitions only.
 use mathlib.Core.Path.{_≡_}
 use mathlib.Core.List.{List, [], _∷_}
 use Prim.Native.Nat.{ℕ}
@@ -46,7 +46,7 @@ abbrev pub AllHold : List Trial → Type 0
 AllHold [] = Unit {0}
 AllHold (t ∷ ts) = Holds t × AllHold ts
 
--- "mu 1, r (1,0,0) unless told"
+-- mu 1 and r (1,0,0), where nothing else is said
 abbrev vector : (x y z : Float) → Vector
 vector x y z = record { x = x; y = y; z = z }
 

@@ -1,4 +1,4 @@
--- C2 and C3: document 01, "The universal functions". Definitions only.
+-- C2 and C3: RULES, The universal functions 1 to 3. Definitions only.
 use Prim.Native.Nat.{ℕ, zero, suc, _+_, _*_, _≤_}
 use mathlib.Core.Path.{_≡_}
 use mathlib.Core.Bool.{false, cond}
@@ -13,7 +13,7 @@ abbrev pub factorial : ℕ → ℕ
 factorial zero = 1
 factorial (suc n) = (n + 1) * factorial n
 
--- "the binary64 number nearest 1/n!"
+-- 3: the binary64 number nearest 1/n!
 abbrev pub nearestInverse : ℕ → Float
 nearestInverse n = round binary64 false 1 (factorial n)
 
@@ -26,16 +26,16 @@ inversesFrom (suc size) n = nearestInverse n ∷ inversesFrom size (n + 2)
 unfoldable pub coefficients : (first : ℕ) → List Float
 coefficients first = inversesFrom 12 first
 
--- "repeatedly multiply by -z and add the next", for the k coefficients that are left
+-- 2: each turn multiplies by -z and adds the coefficient before, for the k coefficients that are left
 unfoldable pub workedFrom : List Float → Float → (k : ℕ) → Float → Float
 workedFrom table z zero sum = sum
 workedFrom table z (suc k) sum = workedFrom table z k (sum ⊗ neg z ⊕ getD table k nan)
 
--- "worked from k = 11 down: start with the last coefficient"
+-- 2: from k = 11 down, with the last coefficient as the start
 unfoldable pub worked : List Float → Float → Float
 worked table z = workedFrom table z 11 (getD table 11 nan)
 
--- ---- "each entry is the binary64 number nearest 1/n!": over whole numbers, among all binary64 numbers
+-- ---- 3, each coefficient is nearest 1/n!: over whole numbers, among all binary64 numbers
 
 -- |y| over whole numbers: in steps of 2^-1074, and times n!
 abbrev pub sized : (n : ℕ) (y : Float) → ℕ

@@ -1,4 +1,4 @@
--- Numbers in bytes: document 01, "The deck", "Little-endian". Definitions only.
+-- Little-endian numbers in bytes: RULES, The deck. Definitions only.
 use Prim.Native.Nat.{ℕ, zero, suc, _+_, _*_, _/_, _%_}
 use mathlib.Core.Bool.{cond}
 use mathlib.Core.List.{List, [], _∷_}
