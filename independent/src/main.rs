@@ -1,4 +1,4 @@
-//! A second opinion on the rules, docs/RULES.md, written from them alone. What the proved programs
+//! A second opinion on the rules (docs/RULES.md), written from them alone. What the proved programs
 //! print is compared with what this program prints for the same inputs.
 
 mod answer;
