@@ -26,8 +26,8 @@ reasonNumber why.TooNearCentre = 11
 reasonNumber why.TowardsInfinity = 12
 reasonNumber why.RootRefused = 14
 
--- Refusal numbers 2 and 3: the three cases of an outcome. Solved has x, count and state; a refusal its
--- number and count, and with 9 and 10 the bracket's two ends
+-- Refusal numbers, notes b and c: the three cases of an outcome. Solved has x, count and state; a refusal its number and count, and with 9
+-- and 10 the bracket's two ends
 pub data Said : Type 0 where
   solved : Float → ℕ → State → Said
   refused : ℕ → ℕ → Said

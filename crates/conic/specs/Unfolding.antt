@@ -1,4 +1,4 @@
--- From the functions to a state: RULES, Unfolding, and what The search 2 and Theta test there. Definitions only.
+-- From the functions to a state: RULES, Unfolding, with the tests of The search 2, which Theta makes too. Definitions only.
 use mathlib.Core.Bool.{_&&_}
 use lib.Ieee.{Float, le, neg}
 use Rattle.exact.specs.Numbers.{_⊕_, _⊖_, _⊗_, _⊘_, numberOf, one}

@@ -18,7 +18,7 @@ nothing = record { solved = 0; refused = 0; rejected = 0; sum = nought; worst = 
 abbrev pub larger : Float → Float → Float
 larger a b = cond (lt a b) b a
 
--- Tally 1: a card counts as solved, refused or rejected; a solved one alone has a residual, |T - t|
+-- Tally 1 and 2: a card counts as solved, refused or rejected; one that counts as solved, and no other, has a residual, |T - t|
 abbrev pub counted : Running → Said → Running
 counted n (solved residual) = record { solved = n .solved + 1; refused = n .refused; rejected = n .rejected; sum = n .sum ⊕ residual; worst = larger (n .worst) residual }
 counted n refused = record { solved = n .solved; refused = n .refused + 1; rejected = n .rejected; sum = n .sum; worst = n .worst }
@@ -34,10 +34,13 @@ pub data Residuals : Type 0 where
   absent : Residuals
   known : (mean worst : Float) → Residuals
 
--- Tally 2 and 3: the mean is the sum of the residuals over the number of solved cards, the worst their largest; where no card is solved
--- neither exists
+-- Tally 2: the sum of the residuals over the number of solved cards
+abbrev pub meanResidual : Running → Float
+meanResidual n = n .sum ⊘ ofInt binary64 (pos (n .solved))
+
+-- Tally 2 and 3: mean and worst; where no card is solved neither exists
 unfoldable pub residualsOf : Running → Residuals
-residualsOf n = cond (eqb (n .solved) 0) absent (known (n .sum ⊘ ofInt binary64 (pos (n .solved))) (n .worst))
+residualsOf n = cond (eqb (n .solved) 0) absent (known (meanResidual n) (n .worst))
 
 abbrev pub totalsOf : Running → Totals
 totalsOf n = record { solved = n .solved; refused = n .refused; rejected = n .rejected }

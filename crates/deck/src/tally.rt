@@ -9,7 +9,7 @@ ghost use Prim.Native.Nat.{_+_, _<_};
 ghost use Rattle.rows.specs.Rows.{pass};
 ghost use Rattle.card.specs.Said as card;
 ghost use Rattle.deck.specs.Said.{said};
-ghost use Rattle.deck.specs.Tally.{nothing, larger, counted, residualsOf, totalsOf};
+ghost use Rattle.deck.specs.Tally.{nothing, larger, counted, meanResidual, residualsOf, totalsOf};
 
 // The tally so far: the sum of the residuals and the largest, over the solved cards.
 pub(crate) struct Running {
@@ -69,8 +69,15 @@ pub(crate) fn closed(running: Running) -> Answer
     Answer::Accepted(
         totals,
         Residuals::Known {
-            mean: running.sum / running.solved as f64,
+            mean: mean(running),
             worst: running.worst,
         },
     )
+}
+
+// The sum over the number of solved cards.
+fn mean(running: Running) -> f64
+    ensures { λ r. ⌜ r ≡ meanResidual running ⌝ }
+{
+    running.sum / running.solved as f64
 }

@@ -103,14 +103,14 @@ eight = numberOf 0x4020_0000_0000_0000
 unfoldable pub farEndOf : (alpha : Float) → Checked Float
 farEndOf alpha = cond (le (magnitude alpha) sixtyFourth) (pass sixtyFour) (onward (rooted (magnitude alpha)) (λ k. pass (eight ⊘ k)))
 
--- scaling 11: 0 to X where t ≥ 0, else -X to 0. The search: the time kept for the end 0 is 0, that of the far end its T
+-- scaling 11: from 0 to X forwards, from -X to 0 backwards. The search: beside the end 0 stands the time 0, beside the far end its T
 abbrev pub zeroEnd : Point
 zeroEnd = record { x = nought; time = nought }
 
 abbrev pub startingBracket : (t : Float) (far : Point) → Bracket
 startingBracket t far = cond (le nought t) (record { lo = zeroEnd; hi = far }) (record { lo = far; hi = zeroEnd })
 
--- Refusal numbers 1: 6 where T at the far end is not finite, right before 8. 8: t ≥ 0 and T(X) < t, or t < 0 and T(-X) > t
+-- Refusal numbers, note a: 6 where T at the far end is not finite, right before 8. Refusal 8: t ≥ 0 and T(X) < t, or t < 0 and T(-X) > t
 unfoldable pub bracketedBy : Scaled → (far : Float) → Checked (Scaled × Bracket)
 bracketedBy o far =
     let t = o .t in

@@ -16,7 +16,7 @@ use Rattle.entry.specs.Entry.{entryOf}
 unfoldable pub arrivedAt : Scaled → Float → ℕ → Said
 arrivedAt o x n = withState x n (arrivalAt o x)
 
--- Refusal numbers 2: number and count, and with 9 and 10 the bracket
+-- Refusal numbers, note b: number and count, and with 9 and 10 the bracket
 abbrev pub outcomeOf : Scaled → search.Ending → Said
 outcomeOf o (search.solved x n) = arrivedAt o x n
 outcomeOf o (search.closed b n) = refusedWithBracket 9 n (b .lo .x) (b .hi .x)

@@ -2,7 +2,7 @@
 // and unfolding of `conic`.
 //
 // `kepler` is proved and total: its contract is an equation with the definition of `specs/Kepler.antt`,
-// which fixes guess, bracket and count after each step. The crate assumes nothing.
+// in which no guess, bracket or count is left open. The crate assumes nothing.
 use conic::Outcome;
 use conic::Problem;
 use conic::Reason;

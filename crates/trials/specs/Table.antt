@@ -68,25 +68,25 @@ across y = vector nought y nought
 
 abbrev pub table : List Trial
 table =
-    -- root: 4 gives 2; 0.25 gives 0.5; 2^-1074 gives 2^-537; -0 gives -0; -1 gives 13
+    -- the root of 4, 0.25, 2^-1074, -0 and -1
     rootGives (numberOf 0x4010_0000_0000_0000) (root.root (numberOf 0x4000_0000_0000_0000))
     ∷ rootGives (numberOf 0x3fd0_0000_0000_0000) (root.root (numberOf 0x3fe0_0000_0000_0000))
     ∷ rootGives (numberOf 0x0000_0000_0000_0001) (root.root (numberOf 0x1e60_0000_0000_0000))
     ∷ rootGives (numberOf 0x8000_0000_0000_0000) (root.root (numberOf 0x8000_0000_0000_0000))
     ∷ rootGives (numberOf 0xbff0_0000_0000_0000) (root.refused 13)
-    -- v (1,1,0): alpha 0, X 64. At x = 4: U1 4, U2 8, R 13, position (5,12,0)
+    -- v (1,1,0): alpha and X; U1, U2, R and the position at x = 4
     ∷ startsAt (problem diagonal nought 20) nought sixtyFour
     ∷ unfoldsAt (problem diagonal nought 20) four four eight (numberOf 0x402a_0000_0000_0000) (vector (numberOf 0x4014_0000_0000_0000) (numberOf 0x4028_0000_0000_0000) nought)
-    -- v (0,1,0), dt 0: solved, x 0, count 1, the state given
+    -- v (0,1,0), dt 0
     ∷ keplerGives (problem (across one) nought 20) (theStateGiven (across one))
-    -- v (1,0,0), dt 0: 7. v (0,2^-10,0), dt 0: solved; v (0,2^-11,0), dt 0: 7
+    -- a straight line; across by 2^-10, and by 2^-11
     ∷ keplerGives (problem (vector one nought nought) nought 20) (refused 7 0)
     ∷ keplerGives (problem (across (numberOf 0x3f50_0000_0000_0000)) nought 20) (theStateGiven (across (numberOf 0x3f50_0000_0000_0000)))
     ∷ keplerGives (problem (across (numberOf 0x3f40_0000_0000_0000)) nought 20) (refused 7 0)
-    -- limit 0: 3; limit 101: 3. mu -1 with a NaN velocity: 1
+    -- limit 0 and 101; mu -1 and a velocity with a NaN
     ∷ keplerGives (problem (across one) nought 0) (refused 3 0)
     ∷ keplerGives (problem (across one) nought 101) (refused 3 0)
     ∷ keplerGives (given (numberOf 0xbff0_0000_0000_0000) (across nan) nought 20) (refused 1 0)
-    -- v (1,1,0), dt 20, limit 1: 10, count 1, bracket 0 to 20
+    -- v (1,1,0), dt 20, limit 1
     ∷ keplerGives (problem diagonal (numberOf 0x4034_0000_0000_0000) 1) (refusedWithBracket 10 1 nought (numberOf 0x4034_0000_0000_0000))
     ∷ []

@@ -12,7 +12,7 @@ returns c = rw (eq-eqb (c .before .before .args .running .solved) 0 (c .if1 .tak
 
 returns-2 : tie.Need-returns-2
 unfolding residualsOf
-returns-2 c = rw (ne-eqb (c .before .before .before .before .args .running .solved) 0 (c .before .before .if1 .left)) refl
+returns-2 c = rw (c .mean .ensures, ne-eqb (c .before .before .before .args .running .solved) 0 (c .before .if1 .left)) refl
 
 pub closed-spec : {M : Type 1} → statement M
-closed-spec = tie.close (tie.spec returns (λ c. search needs) returns-2)
+closed-spec = tie.close (tie.spec returns (λ c κs. search needs) returns-2)
