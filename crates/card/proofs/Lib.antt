@@ -5,3 +5,4 @@ pub mod Accepted
 pub mod Numbers
 pub mod Made
 pub mod Theorems
+pub mod Fixed

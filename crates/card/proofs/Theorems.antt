@@ -1,7 +1,7 @@
 -- What a kind's name and a verdict say can be undone, so `named` and `said` are one to one, and the contracts through them have one answer.
 use mathlib.Core.Path.{_≡_, refl}
-use Rattle.exact.specs.OneToOne.{OneToOne}
-use Rattle.exact.proofs.Coincidence.{undone}
+use Rattle.coincidence.specs.Coincidence.{OneToOne}
+use Rattle.coincidence.proofs.Laws.{undone}
 use Rattle.rows.specs.Rows.{Checked, pass, refuse}
 use Rattle.card.specs.declared.Kind.{Kind}
 use Rattle.card.specs.declared.Named.{Named}

@@ -7,3 +7,4 @@ pub mod Accepted
 pub mod Theorems
 pub mod Worst
 pub mod Mean
+pub mod Fixed

@@ -5,3 +5,4 @@ pub mod AtZero
 pub mod FarEnd
 pub mod Fair
 pub mod Theorems
+pub mod Fixed

@@ -1,8 +1,8 @@
 -- What an answer of the entry tests says can be undone, so `passedScaled` and `passedStart` are one to one, and the contracts through them have
 -- one answer.
 use mathlib.Core.Path.{_≡_, refl, ap}
-use Rattle.exact.specs.OneToOne.{OneToOne}
-use Rattle.exact.proofs.Coincidence.{undone}
+use Rattle.coincidence.specs.Coincidence.{OneToOne}
+use Rattle.coincidence.proofs.Laws.{undone}
 use Rattle.search.specs.declared.Bracket.{Bracket}
 use Rattle.conic.specs.declared.Scaled.{Scaled}
 use Rattle.conic.proofs.Theorems.{reason-is, untold}

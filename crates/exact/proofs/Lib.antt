@@ -1,5 +1,4 @@
 pub mod Basics
-pub mod Coincidence
 pub mod Steps
 pub mod Rounding
 pub mod Fractions
@@ -12,3 +11,4 @@ pub mod Words
 pub mod Tolerance
 pub mod Middle
 pub mod OneStep
+pub mod Fixed

@@ -1,2 +1,1 @@
-pub mod OneToOne
 pub mod Numbers

@@ -4,3 +4,4 @@ pub mod Shape
 pub mod Cases
 pub mod Nearest
 pub mod Theorems
+pub mod Fixed

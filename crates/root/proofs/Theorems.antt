@@ -10,7 +10,7 @@ use native.Mathlib.Omega.{arith}
 use lib.Dec.{T}
 use lib.Ieee.{Float, nan, inf, fin, binary64, fits, lt, eq, ofBits}
 use lib.Ieee.Bits.{is-true, is-false}
-use Rattle.exact.specs.OneToOne.{OneToOne}
+use Rattle.coincidence.specs.Coincidence.{OneToOne}
 use Rattle.exact.specs.Numbers.{nought, isFinite, isMinus, steps}
 use Rattle.exact.proofs.Basics.{passed, failed}
 use Rattle.exact.proofs.Steps.{same-number}

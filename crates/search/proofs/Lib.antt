@@ -3,3 +3,4 @@ pub mod Turns
 pub mod Count
 pub mod Laws
 pub mod Theorems
+pub mod Fixed

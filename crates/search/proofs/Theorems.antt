@@ -1,7 +1,7 @@
 -- What a step says can be undone, so `said` is one to one, and the contract of `next` has one answer.
 use mathlib.Core.Path.{_≡_, refl}
-use Rattle.exact.specs.OneToOne.{OneToOne}
-use Rattle.exact.proofs.Coincidence.{undone}
+use Rattle.coincidence.specs.Coincidence.{OneToOne}
+use Rattle.coincidence.proofs.Laws.{undone}
 use Rattle.search.specs.declared.Step.{Step}
 use Rattle.search.specs.declared.Step.the-variants as step
 use Rattle.search.specs.Said.{Try, guess, noGuess, said}

@@ -1,2 +1,3 @@
 pub mod Value
 pub mod Written
+pub mod Fixed

@@ -1,8 +1,8 @@
--- Why two results that meet a contract coincide. A contract is an equation with a definition, of the result itself or of what a map says of it
--- (`.ci/statements` holds every public function to these forms). The first is met by one result alone (`one-result`), and so is the second
--- where the map is one to one (`one-answer`), as it is where it can be undone (`undone`).
+-- Why a contract has one result. It is an equation with a definition, of the result itself or of what a map says of it. The first is met by one
+-- result alone (`one-result`), and so is the second where the map is one to one (`one-answer`), as it is where it can be undone (`undone`). That
+-- each public function's own contract has one result is a theorem of its crate (`proofs/Fixed.antt`), by these.
 use mathlib.Core.Path.{_≡_, sym, ap, _∙_}
-use Rattle.exact.specs.OneToOne.{OneToOne}
+use Rattle.coincidence.specs.Coincidence.{OneToOne}
 
 pub one-result : {A : Type 0} {defined r t : A} → r ≡ defined → t ≡ defined → r ≡ t
 one-result p q = p ∙ sym q

@@ -1,0 +1,40 @@
+-- Each public function's contract has one result: `Post` is the contract itself, as Rattle reads it off the source (coincidence's `Fixes`).
+use mathlib.Core.Path.{refl}
+use Rattle.coincidence.specs.Coincidence.{Fixes}
+use Rattle.coincidence.proofs.Laws.{one-result, one-answer}
+use Rattle.conic.proofs.Theorems.{arrived-once, said-once}
+use Rattle.conic.proofs.unfolding.arrive.Reads as unfolding-arrive
+use Rattle.conic.proofs.unfolding.arrive.Kinds as unfolding-arrive-kinds
+use Rattle.conic.proofs.unfolding.arrive_at.Reads as unfolding-arrive-at
+use Rattle.conic.proofs.unfolding.arrive_at.Kinds as unfolding-arrive-at-kinds
+use Rattle.conic.proofs.unfolding.outcome_of.Reads as unfolding-outcome-of
+use Rattle.conic.proofs.unfolding.outcome_of.Kinds as unfolding-outcome-of-kinds
+use Rattle.conic.proofs.vectors.all_finite.Reads as vectors-all-finite
+use Rattle.conic.proofs.vectors.all_finite.Kinds as vectors-all-finite-kinds
+use Rattle.conic.proofs.vectors.scaled.Reads as vectors-scaled
+use Rattle.conic.proofs.vectors.scaled.Kinds as vectors-scaled-kinds
+use Rattle.conic.proofs.Scaled.time_at.Reads as scaled-time-at
+use Rattle.conic.proofs.Scaled.time_at.Kinds as scaled-time-at-kinds
+use Rattle.conic.proofs.Reason.number.Reads as reason-number
+use Rattle.conic.proofs.Reason.number.Kinds as reason-number-kinds
+
+pub unfolding-arrive-fixes : Fixes 0 unfolding-arrive-kinds.ps unfolding-arrive-kinds.r unfolding-arrive.Post
+unfolding-arrive-fixes κs a x y v w p q = (one-answer arrived-once x y p q, refl)
+
+pub unfolding-arrive-at-fixes : Fixes 0 unfolding-arrive-at-kinds.ps unfolding-arrive-at-kinds.r unfolding-arrive-at.Post
+unfolding-arrive-at-fixes κs a x y v w p q = (one-answer arrived-once x y p q, refl)
+
+pub unfolding-outcome-of-fixes : Fixes 0 unfolding-outcome-of-kinds.ps unfolding-outcome-of-kinds.r unfolding-outcome-of.Post
+unfolding-outcome-of-fixes κs a x y v w p q = (one-answer said-once x y p q, refl)
+
+pub vectors-all-finite-fixes : Fixes 0 vectors-all-finite-kinds.ps vectors-all-finite-kinds.r vectors-all-finite.Post
+vectors-all-finite-fixes κs a x y v w p q = (one-result p q, refl)
+
+pub vectors-scaled-fixes : Fixes 0 vectors-scaled-kinds.ps vectors-scaled-kinds.r vectors-scaled.Post
+vectors-scaled-fixes κs a x y v w p q = (one-result p q, refl)
+
+pub scaled-time-at-fixes : Fixes 0 scaled-time-at-kinds.ps scaled-time-at-kinds.r scaled-time-at.Post
+scaled-time-at-fixes κs a x y v w p q = (one-result p q, refl)
+
+pub reason-number-fixes : Fixes 0 reason-number-kinds.ps reason-number-kinds.r reason-number.Post
+reason-number-fixes κs a x y v w p q = (one-result p q, refl)
