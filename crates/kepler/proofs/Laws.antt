@@ -16,8 +16,7 @@ use Rattle.search.specs.declared.Bracket.{Bracket}
 use Rattle.search.specs.Said as search
 use Rattle.search.proofs.Hunt.{Names}
 use Rattle.search.proofs.Count as count
-use Rattle.search.proofs.Laws as laws
-use Rattle.search.proofs.Laws.{In, Kept, solved-near, solved-in, named-kept}
+use Rattle.search.proofs.Laws.{In, Kept, solved-near, solved-in, named-kept, named-ends, named-finite}
 use Rattle.conic.specs.declared.Problem.{Problem}
 use Rattle.conic.specs.declared.Scaled.{Scaled}
 use Rattle.conic.specs.declared.State.{State}
@@ -66,11 +65,11 @@ module _ (p : Problem) (o : Scaled) (b : Bracket) (h : entryOf p ≡ pass (o, b)
 
   pub times-kept : (new : Bracket) → Names (foundIn o (p .limit) b) new → (new .lo .time ≡ timeAt o (new .lo .x)) × (new .hi .time ≡ timeAt o (new .hi .x))
   unfolding foundIn
-  times-kept new w = laws.times-kept (timeAt o) (o .t) (p .limit) b (fair p o b (entered p o b h)) new w
+  times-kept new w = let f = fair p o b (entered p o b h) in named-ends (timeAt o) (o .t) (λ e. e .time ≡ timeAt o (e .x)) (λ x g. refl) (p .limit) b (f .lo-kept) (f .hi-kept) new w
 
   found-in : {x : Float} {n : ℕ} → foundIn o (p .limit) b ≡ search.solved x n → In b x
   unfolding foundIn
-  found-in e = solved-in (timeAt o) (o .t) (p .limit) b (fair p o b (entered p o b h)) e
+  found-in e = let f = fair p o b (entered p o b h) in solved-in (timeAt o) (o .t) (p .limit) b (f .starts) (f .lo-time) (f .hi-time) e
 
   found-near : {x : Float} {n : ℕ} → foundIn o (p .limit) b ≡ search.solved x n → (isFinite (timeAt o x) ≡ true) × (isNear (timeAt o x) (o .t) ≡ true)
   unfolding foundIn
@@ -78,7 +77,11 @@ module _ (p : Problem) (o : Scaled) (b : Bracket) (h : entryOf p ≡ pass (o, b)
 
   kept : (new : Bracket) → Names (foundIn o (p .limit) b) new → Kept (timeAt o) (o .t) b new
   unfolding foundIn
-  kept new w = named-kept (timeAt o) (o .t) (p .limit) b (fair p o b (entered p o b h)) new w
+  kept new w = let f = fair p o b (entered p o b h) in named-kept (timeAt o) (o .t) (p .limit) b (f .starts) (f .lo-time) (f .hi-time) new w
+
+  times-finite : (new : Bracket) → Names (foundIn o (p .limit) b) new → (isFinite (timeAt o (new .lo .x)) ≡ true) × (isFinite (timeAt o (new .hi .x)) ≡ true)
+  unfolding foundIn
+  times-finite new w = let f = fair p o b (entered p o b h) in named-finite (timeAt o) (o .t) (p .limit) b (f .lo-finite, f .hi-finite) new w
 
   all-spent : {new : Bracket} {n : ℕ} → foundIn o (p .limit) b ≡ search.spent new n → n ≡ p .limit
   unfolding foundIn
@@ -193,8 +196,9 @@ at-most x y h k e = is-true (le y x) (le-of-not-lt binary64 x y h k (failed e))
 named : (p : Problem) (o : Scaled) (b : Bracket) → entryOf p ≡ pass (o, b) → (new : Bracket) → Names (foundIn o (p .limit) b) new → (k n : ℕ) → (k ≡ 9) ⊎ ((k ≡ 10) × (n ≡ p .limit)) → IsNamed p k n (new .lo .x) (new .hi .x)
 named p o b h new w k n number =
     let i = kept p o b h new w in
-    let lo = times-are p o b (entered p o b h) (new .lo .x) (i .lo-finite) in
-    let hi = times-are p o b (entered p o b h) (new .hi .x) (i .hi-finite) in
+    let f = times-finite p o b h new w in
+    let lo = times-are p o b (entered p o b h) (new .lo .x) (f .0) in
+    let hi = times-are p o b (entered p o b h) (new .hi .x) (f .1) in
     record {
       o = o;
       start = b;
@@ -203,8 +207,8 @@ named p o b h new w k n number =
       lo-in = i .lo-in;
       hi-in = i .hi-in;
       in-order = i .in-order;
-      lo-finite = i .lo-finite;
-      hi-finite = i .hi-finite;
+      lo-finite = f .0;
+      hi-finite = f .1;
       lo-time = i .lo-time;
       hi-time = i .hi-time;
       lo-at-most = at-most (o .t) (timeAt o (new .lo .x)) (lo .1) (lo .0) (i .lo-time);

@@ -1,7 +1,8 @@
 -- The laws on where a search ends, each an instance of the one induction (`Hunt`). Solved is near (`solved-near`). What the starting ends
--- and every guess of a finite time have, the ends of a named bracket have (`named-ends`). The bracket law: from a fair bracket, whose ends'
--- times are finite and have the wanted time between them, a solved search ends in that bracket (`solved-in`), and a named bracket lies in
--- it, in order, with finite times and the wanted one still between (`named-kept`). The invariant: the bracket is so, and the guess lies in it.
+-- and every guess of a finite time have, the ends of a named bracket have (`named-ends`), as that their times are finite (`named-finite`). The
+-- bracket law: from a starting bracket whose
+-- ends' times have the wanted time between them, a solved search ends in that bracket (`solved-in`), and a named bracket lies in it, in
+-- order, with the wanted time still between (`named-kept`). The invariant: the bracket is so, and the guess lies in it.
 use mathlib.Core.Path.{_≡_, refl}
 use mathlib.Core.Logic.{_↔_}
 use mathlib.Core.Bool.{Bool, true, false, cond}
@@ -29,6 +30,13 @@ module _ (time : Float → Float) (t : Float) (Q : Point → Type 0) (guesses : 
 
   pub named-ends : (limit : ℕ) (b₀ : Bracket) → Q (b₀ .lo) → Q (b₀ .hi) → (b : Bracket) → Names (searchOf time t limit b₀) b → Q (b .lo) × Q (b .hi)
   named-ends limit b₀ l h b w = named-has ends-pass limit b₀ (l, h) b w
+
+module _ (time : Float → Float) (t : Float) (limit : ℕ) (b₀ : Bracket) where
+  abbrev Finite : Bracket → Type 0
+  Finite b = (isFinite (time (b .lo .x)) ≡ true) × (isFinite (time (b .hi .x)) ≡ true)
+
+  pub named-finite : Finite b₀ → (b : Bracket) → Names (searchOf time t limit b₀) b → Finite b
+  named-finite f b w = named-ends time t (λ e. isFinite (time (e .x)) ≡ true) (λ x g. g) limit b₀ (f .0) (f .1) b w
 
 -- ---- solved is near
 
@@ -71,46 +79,33 @@ pub record Starts (t : Float) (b : Bracket) : Type 0 where
   pub hi-number : Number binary64 (b .hi .x)
   pub first-in : In b (firstGuess b t)
 
--- a fair bracket to search: its ends' times are finite, the wanted time is not outside them, and the times kept for the ends are theirs
-pub record IsFair (time : Float → Float) (t : Float) (b : Bracket) : Type 0 where
-  pub starts : Starts t b
-  pub lo-finite : isFinite (time (b .lo .x)) ≡ true
-  pub hi-finite : isFinite (time (b .hi .x)) ≡ true
-  pub lo-time : lt t (time (b .lo .x)) ≡ false
-  pub hi-time : lt (time (b .hi .x)) t ≡ false
-  pub lo-kept : b .lo .time ≡ time (b .lo .x)
-  pub hi-kept : b .hi .time ≡ time (b .hi .x)
-
--- a bracket in b₀, in order, with finite times at its ends and the wanted one not outside them
+-- a bracket in b₀, in order, with the wanted time not outside its ends' times
 pub record Kept (time : Float → Float) (t : Float) (b₀ b : Bracket) : Type 0 where
   pub lo-in : In b₀ (b .lo .x)
   pub hi-in : In b₀ (b .hi .x)
   pub in-order : le (b .lo .x) (b .hi .x) ≡ true
-  pub lo-finite : isFinite (time (b .lo .x)) ≡ true
-  pub hi-finite : isFinite (time (b .hi .x)) ≡ true
   pub lo-time : lt t (time (b .lo .x)) ≡ false
   pub hi-time : lt (time (b .hi .x)) t ≡ false
 
-module _ (time : Float → Float) (t : Float) (b₀ : Bracket) (fair : IsFair time t b₀) where
+module _ (time : Float → Float) (t : Float) (b₀ : Bracket) (s : Starts t b₀) where
   abbrev Held : Bracket → Float → Type 0
   Held b x = Kept time t b₀ b × In b x
 
   in-start : (b : Bracket) (x : Float) → Held b x → In b₀ x
-  in-start b x k = in-outer b₀ b x (fair .starts .lo-number) (fair .starts .hi-number) (k .0 .lo-in) (k .0 .hi-in) (k .1)
+  in-start b x k = in-outer b₀ b x (s .lo-number) (s .hi-number) (k .0 .lo-in) (k .0 .hi-in) (k .1)
 
   passes : Passed time t Held (Kept time t b₀)
   passes = record {
-    lower = λ b x k f e. record { lo-in = in-start b x k; hi-in = k .0 .hi-in; in-order = is-true (le x (b .hi .x)) (is-within b x .0 (k .1 .1) .1); lo-finite = f; hi-finite = k .0 .hi-finite; lo-time = lt-once (time x) t e; hi-time = k .0 .hi-time };
-    upper = λ b x k f e. record { lo-in = k .0 .lo-in; hi-in = in-start b x k; in-order = is-true (le (b .lo .x) x) (is-within b x .0 (k .1 .1) .0); lo-finite = k .0 .lo-finite; hi-finite = f; lo-time = k .0 .lo-time; hi-time = e };
+    lower = λ b x k f e. record { lo-in = in-start b x k; hi-in = k .0 .hi-in; in-order = is-true (le x (b .hi .x)) (is-within b x .0 (k .1 .1) .1); lo-time = lt-once (time x) t e; hi-time = k .0 .hi-time };
+    upper = λ b x k f e. record { lo-in = k .0 .lo-in; hi-in = in-start b x k; in-order = is-true (le (b .lo .x) x) (is-within b x .0 (k .1 .1) .0); lo-time = k .0 .lo-time; hi-time = e };
     next = λ b x k w i.
         let p = both (lt (b .lo .x) x) (lt x (b .hi .x)) .0 i in
         (k, in-between b x (k .lo-in .0) (k .hi-in .0) w (le-of-lt (b .lo .x) x (p .0), le-of-lt x (b .hi .x) (p .1)));
   }
 
   -- the ends lie in it, since the first guess stands between them
-  start-kept : Kept time t b₀ b₀
-  start-kept =
-      let s = fair .starts in
+  start-kept : lt t (time (b₀ .lo .x)) ≡ false → lt (time (b₀ .hi .x)) t ≡ false → Kept time t b₀ b₀
+  start-kept l h =
       let L = s .lo-number in
       let H = s .hi-number in
       let p = is-within b₀ (firstGuess b₀ t) .0 (s .first-in .1) in
@@ -119,21 +114,16 @@ module _ (time : Float → Float) (t : Float) (b₀ : Bracket) (fair : IsFair ti
         lo-in = (L, is-within b₀ (b₀ .lo .x) .1 (le-refl binary64 (b₀ .lo .x) L, o));
         hi-in = (H, is-within b₀ (b₀ .hi .x) .1 (o, le-refl binary64 (b₀ .hi .x) H));
         in-order = is-true (le (b₀ .lo .x) (b₀ .hi .x)) o;
-        lo-finite = fair .lo-finite;
-        hi-finite = fair .hi-finite;
-        lo-time = fair .lo-time;
-        hi-time = fair .hi-time;
+        lo-time = l;
+        hi-time = h;
       }
 
-module _ (time : Float → Float) (t : Float) (limit : ℕ) (b₀ : Bracket) (fair : IsFair time t b₀) where
+module _ (time : Float → Float) (t : Float) (limit : ℕ) (b₀ : Bracket) (s : Starts t b₀) (lo : lt t (time (b₀ .lo .x)) ≡ false) (hi : lt (time (b₀ .hi .x)) t ≡ false) where
   pub solved-in : {x : Float} {n : ℕ} → searchOf time t limit b₀ ≡ solved x n → In b₀ x
-  solved-in {x} e = let h = solved-has (passes time t b₀ fair) limit b₀ (start-kept time t b₀ fair, fair .starts .first-in) e .2 in in-start time t b₀ fair (h .0) x (h .1)
+  solved-in {x} e = let h = solved-has (passes time t b₀ s) limit b₀ (start-kept time t b₀ s lo hi, s .first-in) e .2 in in-start time t b₀ s (h .0) x (h .1)
 
   pub named-kept : (b : Bracket) → Names (searchOf time t limit b₀) b → Kept time t b₀ b
-  named-kept b w = named-has (passes time t b₀ fair) limit b₀ (start-kept time t b₀ fair, fair .starts .first-in) b w
-
-  pub times-kept : (b : Bracket) → Names (searchOf time t limit b₀) b → (b .lo .time ≡ time (b .lo .x)) × (b .hi .time ≡ time (b .hi .x))
-  times-kept b w = named-ends time t (λ e. e .time ≡ time (e .x)) (λ x g. refl) limit b₀ (fair .lo-kept) (fair .hi-kept) b w
+  named-kept b w = named-has (passes time t b₀ s) limit b₀ (start-kept time t b₀ s lo hi, s .first-in) b w
 
 -- ---- the two starting brackets
 
