@@ -61,6 +61,16 @@ def brought(text):
     return names
 
 
+def plain_names(text):
+    """No `use .. as` and no `mod` may take a name under which a library's or a crate's path would be read otherwise."""
+    item = r"^(?:pub )?(?:ghost )?use "
+    paths = re.findall(item + r"([^\s.;{]+)\.", text, re.M)
+    named = re.findall(item + r"[^\s{]+ as ([^\s;]+)", text, re.M) + re.findall(r"^(?:pub )?mod ([^\s;]+)$", text, re.M)
+    for name in named:
+        if name in paths or not re.fullmatch(r"[a-z][a-z0-9-]*", name):
+            raise Unread(f"'{name}' is given to something of its own, and a library's path could be read by it")
+
+
 def place_of(uses, name):
     """(file or library module, name there) of what a name stands for; None where nothing brings it."""
     alias, dot, last = name.rpartition(".")
@@ -101,15 +111,17 @@ def functions_in(file, prefix, folder, public):
     public.add(file)
     text = without_comments(file.read_text("utf-8"))
     uses = brought(text)
-    kind = hidden = ""
+    plain_names(text)
+    kind = ""
     place = 0
     for line in text.splitlines(keepends=True):
         start, place = place, place + len(line)
         if re.match(r"\S", line):
             kind = (re.match(r"impl (\w+) \{", line) or [""] * 2)[1]
-            hidden = re.match(r"(pub\(\w+\) )?mod .*\{", line)
+        if re.match(r"\s*(pub(\(\w+\))? )?mod .*\{", line):
+            raise Unread(f"a module in braces, '{line.strip()}': give it a file")
         item = re.match(r"( *)pub (.*)", line)
-        if hidden or not item or re.match(r"(struct|enum) |const \w+: |\w+: ", item[2]):
+        if not item or re.match(r"(struct|enum) |const \w+: |\w+: ", item[2]):
             continue
         module = re.fullmatch(r"mod (\w+);", item[2])
         if module and not item[1]:
@@ -125,8 +137,8 @@ def functions_of(folder, crate):
     public = set()
     yield from functions_in(folder / "lib.rt", crate, folder, public)
     for file in sorted(set(folder.rglob("*.rt")) - public):
-        if re.search(r'^\s*pub (extern "C" )?fn ', file.read_text("utf-8"), re.M):
-            raise Unread(f"a public function in the private module {file.name}: pub(crate) is meant")
+        if re.search(r"^\s*pub .*\bfn |^\s*(pub(\(\w+\))? )?mod .*\{", file.read_text("utf-8"), re.M):
+            raise Unread(f"a public function, or a module in braces, in the private module {file.name}: pub(crate) is meant")
 
 
 def public_functions(tree):

@@ -1,4 +1,4 @@
--- Each public function's contract has one result: `Post` is the contract itself, as Rattle reads it off the source (coincidence's `Fixes`).
+-- Each public function's contract has one result: `Learnt` is the contract itself, as Rattle reads it off the source for callers (coincidence's `Fixes`).
 use mathlib.Core.Path.{refl}
 use Rattle.coincidence.specs.Coincidence.{Fixes}
 use Rattle.coincidence.proofs.Laws.{one-result, one-answer}
@@ -18,23 +18,23 @@ use Rattle.card.proofs.problem.Kinds as problem-kinds
 use Rattle.card.proofs.judge.Reads as judge
 use Rattle.card.proofs.judge.Kinds as judge-kinds
 
-pub kind-size-fixes : Fixes 0 kind-size-kinds.ps kind-size-kinds.r kind-size.Post
+pub kind-size-fixes : Fixes 0 kind-size-kinds.ps kind-size-kinds.r kind-size.Learnt
 kind-size-fixes κs a x y v w p q = (one-result p q, refl)
 
-pub fault-number-fixes : Fixes 0 fault-number-kinds.ps fault-number-kinds.r fault-number.Post
+pub fault-number-fixes : Fixes 0 fault-number-kinds.ps fault-number-kinds.r fault-number.Learnt
 fault-number-fixes κs a x y v w p q = (one-result p q, refl)
 
-pub verdict-number-fixes : Fixes 0 verdict-number-kinds.ps verdict-number-kinds.r verdict-number.Post
+pub verdict-number-fixes : Fixes 0 verdict-number-kinds.ps verdict-number-kinds.r verdict-number.Learnt
 verdict-number-fixes κs a x y v w p q = (one-result p q, refl)
 
-pub kind-of-fixes : Fixes 0 kind-of-kinds.ps kind-of-kinds.r kind-of.Post
+pub kind-of-fixes : Fixes 0 kind-of-kinds.ps kind-of-kinds.r kind-of.Learnt
 kind-of-fixes κs a x y v w p q = (one-answer named-once x y p q, refl)
 
-pub number-fixes : Fixes 1 number-kinds.ps number-kinds.r number.Post
+pub number-fixes : Fixes 1 number-kinds.ps number-kinds.r number.Learnt
 number-fixes κs a x y v w p q = (one-result p q, refl)
 
-pub problem-fixes : Fixes 1 problem-kinds.ps problem-kinds.r problem.Post
+pub problem-fixes : Fixes 1 problem-kinds.ps problem-kinds.r problem.Learnt
 problem-fixes κs a x y v w p q = (one-result p q, refl)
 
-pub judge-fixes : Fixes 1 judge-kinds.ps judge-kinds.r judge.Post
+pub judge-fixes : Fixes 1 judge-kinds.ps judge-kinds.r judge.Learnt
 judge-fixes κs a x y v w p q = (one-answer said-once x y p q, refl)

@@ -1,4 +1,4 @@
--- Each public function's contract has one result: `Post` is the contract itself, as Rattle reads it off the source (coincidence's `Fixes`).
+-- Each public function's contract has one result: `Learnt` is the contract itself, as Rattle reads it off the source for callers (coincidence's `Fixes`).
 use mathlib.Core.Path.{refl}
 use Rattle.coincidence.specs.Coincidence.{Fixes}
 use Rattle.coincidence.proofs.Laws.{one-result, one-answer}
@@ -18,23 +18,23 @@ use Rattle.conic.proofs.Scaled.time_at.Kinds as scaled-time-at-kinds
 use Rattle.conic.proofs.Reason.number.Reads as reason-number
 use Rattle.conic.proofs.Reason.number.Kinds as reason-number-kinds
 
-pub unfolding-arrive-fixes : Fixes 0 unfolding-arrive-kinds.ps unfolding-arrive-kinds.r unfolding-arrive.Post
+pub unfolding-arrive-fixes : Fixes 0 unfolding-arrive-kinds.ps unfolding-arrive-kinds.r unfolding-arrive.Learnt
 unfolding-arrive-fixes κs a x y v w p q = (one-answer arrived-once x y p q, refl)
 
-pub unfolding-arrive-at-fixes : Fixes 0 unfolding-arrive-at-kinds.ps unfolding-arrive-at-kinds.r unfolding-arrive-at.Post
+pub unfolding-arrive-at-fixes : Fixes 0 unfolding-arrive-at-kinds.ps unfolding-arrive-at-kinds.r unfolding-arrive-at.Learnt
 unfolding-arrive-at-fixes κs a x y v w p q = (one-answer arrived-once x y p q, refl)
 
-pub unfolding-outcome-of-fixes : Fixes 0 unfolding-outcome-of-kinds.ps unfolding-outcome-of-kinds.r unfolding-outcome-of.Post
+pub unfolding-outcome-of-fixes : Fixes 0 unfolding-outcome-of-kinds.ps unfolding-outcome-of-kinds.r unfolding-outcome-of.Learnt
 unfolding-outcome-of-fixes κs a x y v w p q = (one-answer said-once x y p q, refl)
 
-pub vectors-all-finite-fixes : Fixes 0 vectors-all-finite-kinds.ps vectors-all-finite-kinds.r vectors-all-finite.Post
+pub vectors-all-finite-fixes : Fixes 0 vectors-all-finite-kinds.ps vectors-all-finite-kinds.r vectors-all-finite.Learnt
 vectors-all-finite-fixes κs a x y v w p q = (one-result p q, refl)
 
-pub vectors-scaled-fixes : Fixes 0 vectors-scaled-kinds.ps vectors-scaled-kinds.r vectors-scaled.Post
+pub vectors-scaled-fixes : Fixes 0 vectors-scaled-kinds.ps vectors-scaled-kinds.r vectors-scaled.Learnt
 vectors-scaled-fixes κs a x y v w p q = (one-result p q, refl)
 
-pub scaled-time-at-fixes : Fixes 0 scaled-time-at-kinds.ps scaled-time-at-kinds.r scaled-time-at.Post
+pub scaled-time-at-fixes : Fixes 0 scaled-time-at-kinds.ps scaled-time-at-kinds.r scaled-time-at.Learnt
 scaled-time-at-fixes κs a x y v w p q = (one-result p q, refl)
 
-pub reason-number-fixes : Fixes 0 reason-number-kinds.ps reason-number-kinds.r reason-number.Post
+pub reason-number-fixes : Fixes 0 reason-number-kinds.ps reason-number-kinds.r reason-number.Learnt
 reason-number-fixes κs a x y v w p q = (one-result p q, refl)

@@ -1,4 +1,4 @@
--- Each public function's contract has one result: `Post` is the contract itself, as Rattle reads it off the source (coincidence's `Fixes`).
+-- Each public function's contract has one result: `Learnt` is the contract itself, as Rattle reads it off the source for callers (coincidence's `Fixes`).
 use mathlib.Core.Path.{ap}
 use Rattle.coincidence.specs.Coincidence.{Fixes}
 use Rattle.coincidence.proofs.Laws.{one-result}
@@ -7,8 +7,8 @@ use Rattle.linked.proofs.tailfiddle_predict.Kinds as tailfiddle-predict
 use Rattle.linked.proofs.tailfiddle_check.Reads as tailfiddle-check
 use Rattle.linked.proofs.tailfiddle_check.Kinds as tailfiddle-check-kinds
 
-pub tailfiddle-predict-fixes : Fixes 2 tailfiddle-predict-kinds.ps tailfiddle-predict-kinds.r tailfiddle-predict.Post
+pub tailfiddle-predict-fixes : Fixes 2 tailfiddle-predict-kinds.ps tailfiddle-predict-kinds.r tailfiddle-predict.Learnt
 tailfiddle-predict-fixes κs a x y v w p q = (one-result (p .0) (q .0), ap (λ l. (tt, (l, tt))) (one-result (p .1) (q .1)))
 
-pub tailfiddle-check-fixes : Fixes 2 tailfiddle-check-kinds.ps tailfiddle-check-kinds.r tailfiddle-check.Post
+pub tailfiddle-check-fixes : Fixes 2 tailfiddle-check-kinds.ps tailfiddle-check-kinds.r tailfiddle-check.Learnt
 tailfiddle-check-fixes κs a x y v w p q = (one-result (p .0) (q .0), ap (λ l. (tt, (l, tt))) (one-result (p .1) (q .1)))

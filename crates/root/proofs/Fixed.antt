@@ -1,4 +1,4 @@
--- Each public function's contract has one result: `Post` is the contract itself, as Rattle reads it off the source (coincidence's `Fixes`).
+-- Each public function's contract has one result: `Learnt` is the contract itself, as Rattle reads it off the source for callers (coincidence's `Fixes`).
 use mathlib.Core.Path.{refl}
 use Rattle.coincidence.specs.Coincidence.{Fixes}
 use Rattle.coincidence.proofs.Laws.{one-result, one-answer}
@@ -8,8 +8,8 @@ use Rattle.root.proofs.Reason.number.Kinds as reason-number-kinds
 use Rattle.root.proofs.root.Reads as root
 use Rattle.root.proofs.root.Kinds as root-kinds
 
-pub reason-number-fixes : Fixes 0 reason-number-kinds.ps reason-number-kinds.r reason-number.Post
+pub reason-number-fixes : Fixes 0 reason-number-kinds.ps reason-number-kinds.r reason-number.Learnt
 reason-number-fixes κs a x y v w p q = (one-result p q, refl)
 
-pub root-fixes : Fixes 0 root-kinds.ps root-kinds.r root.Post
+pub root-fixes : Fixes 0 root-kinds.ps root-kinds.r root.Learnt
 root-fixes κs a x y v w p q = (one-answer said-once x y p q, refl)
