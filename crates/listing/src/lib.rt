@@ -1,153 +1,107 @@
-// The listing programs: records of one size in, a line for each out.
+// A deck's listing: a line for each card, the totals, mean and worst; or the deck's refusal.
+// docs/RULES.md, The check program's listing.
 //
-// A record is what one question takes: eight bytes for a root, 68 for Kepler, 64 for Theta. Up to
-// 65,536 records are read from standard input. Input that ends inside a record ends the output
-// with the line `short`; input beyond the last place with the line `more`.
-//
-// Every function here is proved safe and to end. What is read and written is no part of a contract;
-// what an answer is, the crates below promise.
-use conic::Outcome;
-use conic::Problem;
-use conic::State;
-use conic::Vector;
-use root::Answer;
+// `listing` is proved and total: what it writes is a definition of the deck's bytes. The crate
+// assumes nothing.
+use card::Kind;
+use card::Named;
+use deck::Answer;
+use deck::Residuals;
+use deck::Totals;
+ghost use mathlib.Core.Path.{_≡_};
 ghost use Prim.Native.Nat.{_≤_};
-ghost use lib.ListN.{length};
-ghost use Rattle.io.specs.Counts.{Counts};
+ghost use lib.ListN.{length, take};
+ghost use lib.Seq.{sets};
+ghost use Rattle.text.specs.Text.{endIn, handedIn};
+ghost use Rattle.listing.specs.Listing as listing;
 
-// What is asked of each record.
-pub enum Question {
-    Root,
-    Kepler,
-    Theta,
-}
+// The bytes of the longest listing, and the most cards.
+pub const ROOM: usize = 5087;
 
-// The input is taken in blocks of 64 records; 1,024 blocks are 65,536 records.
-const BLOCKS: u32 = 1024;
+const CARDS: usize = 256;
 
-// Answers standard input on standard output.
-pub fn list(asked: Question) {
-    let mut blocks = 0u32;
-    while blocks < BLOCKS {
-        if !block(asked) {
-            return;
-        }
-        blocks += 1;
-    }
-    beyond();
-}
-
-// The bytes of one record.
-fn width(asked: Question) -> usize
-    ensures { λ r. ⌜ (8 ≤ r) × (r ≤ 68) ⌝ }
+// The deck's listing, in out, if out has room for it. Answers how long it is.
+pub fn listing(deck: &[u8], out: &mut [u8]) -> usize
+    ensures { λ r. ⌜ r ≡ length (listing.listingOf (now (deck .entry))) ⌝ }
+    ensures { λ r. ⌜ now (out .exit) ≡ handedIn (listing.listingOf (now (deck .entry))) (now (out .entry)) ⌝ }
 {
-    match asked {
-        Question::Root => 8,
-        Question::Kepler => 68,
-        Question::Theta => 64,
+    let mut page = [0u8; ROOM];
+    let end = write(deck, &mut page);
+    text::hand(&page[..end], out)
+}
+
+fn write(deck: &[u8], page: &mut [u8]) -> usize {
+    let mut verdicts = [0u32; CARDS];
+    match deck::check(deck, &mut verdicts) {
+        Answer::Refused(why) => refused(why.number(), page),
+        Answer::Accepted(totals, residuals) => {
+            let count = totals.solved + totals.refused + totals.rejected;
+            let shown = cards(deck, &verdicts, count, page);
+            let totalled = totals_line(totals, page, shown);
+            residual_lines(residuals, page, totalled)
+        }
     }
 }
 
-// Reads one block and writes its lines. Answers whether the input may go on.
-fn block(asked: Question) -> bool {
-    let mut space = [0u8; 4352];
-    let size = 64 * width(asked);
-    let got = filled(&mut space, size);
-    let at = answers(asked, &space[..got]);
-    if at < got {
-        stdio::text(b"short\n");
-    }
-    got == size
+// `deck NUMBER`.
+fn refused(number: u32, page: &mut [u8]) -> usize {
+    let mut end = text::put(page, 0, b"deck");
+    end = text::count(page, end, number);
+    text::put(page, end, b"\n")
 }
 
-// Reads up to size bytes, for which there must be room. Answers how many came.
-fn filled(space: &mut [u8], size: usize) -> usize
-    requires { ⌜ size ≤ length (now space) ⌝ }
-    ensures { λ r. ⌜ Counts r (now (space .exit)) ⌝ }
+// A line for each card.
+fn cards(deck: &[u8], verdicts: &[u32], count: u32, page: &mut [u8]) -> usize
+    requires { ⌜ count ≤ length (now verdicts) ⌝ }
 {
-    stdio::read(space, size)
+    let mut i = 0u32;
+    let mut end = 0;
+    while i < count {
+        let place = i as usize;
+        end = card_line(i + 1, deck::kind_at(deck, i), verdicts[place], page, end);
+        i += 1;
+    }
+    end
 }
 
-// The line for input beyond the last place, where there is any.
-fn beyond() {
-    let mut space = [0u8; 1];
-    if 0 < stdio::read(&mut space, 1) {
-        stdio::text(b"more\n");
+// `card PLACE KIND VERDICT`. An accepted deck has no card without a kind.
+fn card_line(place: u32, named: Named, verdict: u32, page: &mut [u8], at: usize) -> usize {
+    let mut end = text::put(page, at, b"card");
+    end = text::count(page, end, place);
+    end = kind_word(named, page, end);
+    end = text::count(page, end, verdict);
+    text::put(page, end, b"\n")
+}
+
+fn kind_word(named: Named, page: &mut [u8], at: usize) -> usize {
+    let Named::Kind(kind) = named else {
+        return at;
+    };
+    match kind {
+        Kind::Solved => text::put(page, at, b" solved"),
+        Kind::Refused => text::put(page, at, b" refused"),
     }
 }
 
-// A line for each whole record of s. Answers where the rest begins, in which there is none.
-fn answers(asked: Question, s: &[u8]) -> usize {
-    let size = width(asked);
-    let mut at = 0;
-    while size <= s.len() - at {
-        let next = at + size;
-        answer(asked, &s[at..next]);
-        at = next;
-    }
-    at
+fn totals_line(totals: Totals, page: &mut [u8], at: usize) -> usize {
+    let mut end = text::put(page, at, b"solved");
+    end = text::count(page, end, totals.solved);
+    end = text::put(page, end, b" refused");
+    end = text::count(page, end, totals.refused);
+    end = text::put(page, end, b" rejected");
+    end = text::count(page, end, totals.rejected);
+    text::put(page, end, b"\n")
 }
 
-// The line of one record.
-fn answer(asked: Question, s: &[u8]) {
-    match asked {
-        Question::Root => print_answer(root::root(card::number(s, 0))),
-        Question::Kepler => print_outcome(kepler::kepler(card::problem(s))),
-        Question::Theta => print_outcome(turned(card::problem(s))),
-    }
-    stdio::text(b"\n");
-}
-
-// An angle problem has its angle where a problem has its time.
-fn turned(p: Problem) -> Outcome {
-    theta::theta(p.mu, p.r, p.v, p.dt)
-}
-
-// `root HEX` or `refused NUMBER`.
-fn print_answer(answer: Answer) {
-    match answer {
-        Answer::Root(x) => {
-            stdio::text(b"root");
-            stdio::number(x);
-        }
-        Answer::Refused(why) => print_refused(why.number()),
-    }
-}
-
-// `solved COUNT X RX RY RZ VX VY VZ`, `refused NUMBER COUNT` or `refused NUMBER COUNT LO HI`.
-fn print_outcome(outcome: Outcome) {
-    match outcome {
-        Outcome::Solved { x, count, state } => {
-            stdio::text(b"solved");
-            stdio::count(count);
-            stdio::number(x);
-            print_state(state);
-        }
-        Outcome::Refused(why, count) => {
-            print_refused(why.number());
-            stdio::count(count);
-        }
-        Outcome::RefusedWithBracket(why, count, lo, hi) => {
-            print_refused(why.number());
-            stdio::count(count);
-            stdio::number(lo);
-            stdio::number(hi);
+fn residual_lines(residuals: Residuals, page: &mut [u8], at: usize) -> usize {
+    match residuals {
+        Residuals::Absent => text::put(page, at, b"mean none\nworst none\n"),
+        Residuals::Known { mean, worst } => {
+            let mut end = text::put(page, at, b"mean");
+            end = text::number(page, end, mean);
+            end = text::put(page, end, b"\nworst");
+            end = text::number(page, end, worst);
+            text::put(page, end, b"\n")
         }
     }
-}
-
-fn print_refused(number: u32) {
-    stdio::text(b"refused");
-    stdio::count(number);
-}
-
-fn print_state(state: State) {
-    print_vector(state.r);
-    print_vector(state.v);
-}
-
-fn print_vector(v: Vector) {
-    stdio::number(v.x);
-    stdio::number(v.y);
-    stdio::number(v.z);
 }

@@ -1,7 +1,7 @@
 // Takes roots: reads binary64 words, eight bytes each, and writes a line for each. What the lines
-// are, `listing` says.
-use listing::Question;
+// are, `lines` says.
+use lines::Question;
 
 fn main() {
-    listing::list(Question::Root);
+    records::list(Question::Root);
 }

@@ -1,0 +1,38 @@
+-- The lines of records one behind the other: RULES, Lines. Definitions only.
+use Prim.Native.Nat.{ℕ, zero, suc, _+_, _*_, _/_}
+use mathlib.Core.List.{List, [], _∷_, _++_}
+use lib.ListN.{length, take, drop}
+use Rattle.text.specs.Text.{text}
+use Rattle.lines.specs.declared.Question.{Question}
+use Rattle.lines.specs.Line.{widthOf, lineOf}
+
+-- Lines 4: what is left behind the last whole record: nothing, or a record that is cut off
+abbrev pub leftOver : List ℕ → List ℕ
+leftOver [] = []
+leftOver (b ∷ bytes) = text "short\n"
+
+-- Lines 4: a line for each of n records, then what is left
+unfoldable pub linesFrom : Question → (n : ℕ) → List ℕ → List ℕ
+linesFrom asked zero bytes = leftOver bytes
+linesFrom asked (suc n) bytes = lineOf asked (take (widthOf asked) bytes) ++ linesFrom asked n (drop (widthOf asked) bytes)
+
+-- the lines of all the bytes that come
+abbrev pub linesOf : Question → List ℕ → List ℕ
+linesOf asked bytes = linesFrom asked (length bytes / widthOf asked) bytes
+
+-- the records that are answered at a time, and the bytes that so many have
+abbrev pub blockRecords : ℕ
+blockRecords = 64
+
+abbrev pub blockBytes : Question → ℕ
+blockBytes asked = blockRecords * widthOf asked
+
+abbrev pub blockOf : Question → List ℕ → List ℕ
+blockOf asked bytes = take (blockBytes asked) bytes
+
+-- the bytes of the longest line, and of the longest text that a block comes to
+abbrev pub longestLine : ℕ
+longestLine = 137
+
+abbrev pub longestText : ℕ
+longestText = blockRecords * longestLine + 6

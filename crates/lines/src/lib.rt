@@ -1,0 +1,141 @@
+// Records in, a line for each out: what `predict`, `turn` and `roots` write. docs/RULES.md, Lines.
+//
+// A record is what one question takes: eight bytes for a root, 68 for Kepler, 64 for Theta. Every
+// function here is proved, the public ones are total, and the crate assumes nothing.
+use conic::Outcome;
+use conic::Problem;
+use conic::Vector;
+use root::Answer;
+ghost use mathlib.Core.Path.{_≡_};
+ghost use Prim.Native.Nat.{_≤_};
+ghost use lib.ListN.{length, take};
+ghost use lib.Seq.{sets};
+ghost use Rattle.text.specs.Text.{endIn, handedIn};
+ghost use Rattle.root.specs.Said as root;
+ghost use Rattle.conic.specs.Said as conic;
+ghost use Rattle.lines.specs.Line.{widthOf, lineOf, rootLine, outcomeLine, vector, turned};
+ghost use Rattle.lines.specs.Lines.{linesOf, blockOf, blockBytes, longestText};
+
+// What is asked of each record.
+pub enum Question {
+    Root,
+    Kepler,
+    Theta,
+}
+
+// The records that are answered at a time, and the room that their lines take at most: 137 bytes
+// each, and `short` with its line end.
+const RECORDS: usize = 64;
+
+pub const ROOM: usize = 8774;
+
+// The bytes of one record.
+pub fn width(asked: Question) -> usize
+    ensures { λ r. ⌜ r ≡ widthOf asked ⌝ }
+{
+    match asked {
+        Question::Root => 8,
+        Question::Kepler => 68,
+        Question::Theta => 64,
+    }
+}
+
+// The bytes of as many records as are answered at a time.
+pub fn block(asked: Question) -> usize
+    ensures { λ r. ⌜ r ≡ blockBytes asked ⌝ }
+{
+    RECORDS * width(asked)
+}
+
+// The lines of the first block of s, in out, if out has room for them. Answers how long they are.
+pub fn lines(asked: Question, s: &[u8], out: &mut [u8]) -> usize
+    ensures { λ r. ⌜ r ≡ length (linesOf asked (blockOf asked (now (s .entry)))) ⌝ }
+    ensures { λ r. ⌜ now (out .exit) ≡ handedIn (linesOf asked (blockOf asked (now (s .entry)))) (now (out .entry)) ⌝ }
+{
+    let mut page = [0u8; ROOM];
+    let mut size = block(asked);
+    if s.len() < size {
+        size = s.len();
+    }
+    let end = write(asked, &s[..size], &mut page);
+    text::hand(&page[..end], out)
+}
+
+// A line for each whole record of s, and `short` if there is more.
+fn write(asked: Question, s: &[u8], page: &mut [u8]) -> usize {
+    let size = width(asked);
+    let mut at = 0;
+    let mut end = 0;
+    while size <= s.len() - at {
+        let next = at + size;
+        end = line(asked, &s[at..next], page, end);
+        at = next;
+    }
+    if at < s.len() {
+        end = text::put(page, end, b"short\n");
+    }
+    end
+}
+
+// The line of one record, from index at on.
+fn line(asked: Question, s: &[u8], out: &mut [u8], at: usize) -> usize {
+    match asked {
+        Question::Root => root_line(root::root(card::number(s, 0)), out, at),
+        Question::Kepler => outcome_line(kepler::kepler(card::problem(s)), out, at),
+        Question::Theta => outcome_line(turned(card::problem(s)), out, at),
+    }
+}
+
+// An angle problem has its angle where a problem has its time.
+fn turned(p: Problem) -> Outcome {
+    theta::theta(p.mu, p.r, p.v, p.dt)
+}
+
+// `root HEX` or `refused NUMBER`.
+fn root_line(answer: Answer, out: &mut [u8], at: usize) -> usize {
+    let mut end = at;
+    match answer {
+        Answer::Root(x) => {
+            end = text::put(out, end, b"root");
+            end = text::number(out, end, x);
+        }
+        Answer::Refused(why) => {
+            end = text::put(out, end, b"refused");
+            end = text::count(out, end, why.number());
+        }
+    }
+    text::put(out, end, b"\n")
+}
+
+// `solved COUNT X RX RY RZ VX VY VZ`, `refused NUMBER COUNT` or `refused NUMBER COUNT LO HI`.
+fn outcome_line(outcome: Outcome, out: &mut [u8], at: usize) -> usize {
+    let mut end = at;
+    match outcome {
+        Outcome::Solved { x, count, state } => {
+            end = text::put(out, end, b"solved");
+            end = text::count(out, end, count);
+            end = text::number(out, end, x);
+            end = vector(state.r, out, end);
+            end = vector(state.v, out, end);
+        }
+        Outcome::Refused(why, count) => {
+            end = text::put(out, end, b"refused");
+            end = text::count(out, end, why.number());
+            end = text::count(out, end, count);
+        }
+        Outcome::RefusedWithBracket(why, count, lo, hi) => {
+            end = text::put(out, end, b"refused");
+            end = text::count(out, end, why.number());
+            end = text::count(out, end, count);
+            end = text::number(out, end, lo);
+            end = text::number(out, end, hi);
+        }
+    }
+    text::put(out, end, b"\n")
+}
+
+fn vector(v: Vector, out: &mut [u8], at: usize) -> usize {
+    let y = text::number(out, at, v.x);
+    let z = text::number(out, y, v.y);
+    text::number(out, z, v.z)
+}

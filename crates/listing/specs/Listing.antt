@@ -1,0 +1,67 @@
+-- A deck's listing: RULES, The check program's listing. Definitions only.
+use Prim.Native.Nat.{ℕ, _+_}
+use mathlib.Core.List.{List, [], _∷_, _++_}
+use Rattle.text.specs.Text.{text, joined, count, number}
+use Rattle.rows.specs.Rows.{Checked, pass, refuse}
+use Rattle.card.specs.declared.Kind.{Kind}
+use Rattle.card.specs.declared.Kind.the-variants as kind
+use Rattle.card.specs.Fields.{Card}
+use Rattle.card.specs.Said.{numberIn}
+use Rattle.card.specs.Verdict.{verdictOn}
+use Rattle.deck.specs.declared.Totals.{Totals}
+use Rattle.deck.specs.Contents.{cardsOf}
+use Rattle.deck.specs.Tally.{Residuals, absent, known, tallyOf}
+use Rattle.deck.specs.Check.{verdictsOf}
+
+-- 2: the card's kind and its verdict's number
+abbrev pub kindWord : Kind → List ℕ
+kindWord kind.Solved = text " solved"
+kindWord kind.Refused = text " refused"
+
+abbrev pub verdictNumber : Card → ℕ
+verdictNumber c = numberIn (verdictOn (c .kind) (c .body))
+
+-- 2: a line for each card, with its place
+abbrev pub cardLine : (place : ℕ) → Card → List ℕ
+cardLine place c = joined (text "card" ∷ count place ∷ kindWord (c .kind) ∷ count (verdictNumber c) ∷ text "\n" ∷ [])
+
+unfoldable pub cardLines : (place : ℕ) → List Card → List ℕ
+cardLines place [] = []
+cardLines place (c ∷ cards) = cardLine place c ++ cardLines (place + 1) cards
+
+-- 3: the three totals
+abbrev pub totalsLine : Totals → List ℕ
+totalsLine n = joined (text "solved" ∷ count (n .solved) ∷ text " refused" ∷ count (n .refused) ∷ text " rejected" ∷ count (n .rejected) ∷ text "\n" ∷ [])
+
+-- 4: mean and worst, or that there is neither
+abbrev pub residualLines : Residuals → List ℕ
+residualLines absent = text "mean none\nworst none\n"
+residualLines (known mean worst) = joined (text "mean" ∷ number mean ∷ text "\nworst" ∷ number worst ∷ text "\n" ∷ [])
+
+-- 2 to 4: an accepted deck
+abbrev pub acceptedLines : List Card → List ℕ
+acceptedLines cards =
+    let tally = tallyOf (verdictsOf cards) in
+    joined (cardLines 1 cards ∷ totalsLine (tally .0) ∷ residualLines (tally .1) ∷ [])
+
+-- 5: a refused deck
+abbrev pub refusedLine : ℕ → List ℕ
+refusedLine k = joined (text "deck" ∷ count k ∷ text "\n" ∷ [])
+
+abbrev pub linesFor : Checked (List Card) → List ℕ
+linesFor (pass cards) = acceptedLines cards
+linesFor (refuse k) = refusedLine k
+
+-- the listing, from the deck's bytes alone
+unfoldable pub listingOf : (deck : List ℕ) → List ℕ
+listingOf deck = linesFor (cardsOf deck)
+
+-- the bytes of the longest listing, of the largest deck, and 1: what is read of a deck
+abbrev pub longestListing : ℕ
+longestListing = 5087
+
+abbrev pub largestDeck : ℕ
+largestDeck = 35848
+
+abbrev pub readOfADeck : ℕ
+readOfADeck = 35849

@@ -1,0 +1,39 @@
+// The programs that answer records: `predict`, `turn` and `roots` read records of one size from
+// standard input, block by block, and write the lines that `lines` makes of each block.
+//
+// Every function here is proved safe and to end. What is read and written is no part of a contract;
+// that a block of lines is the definition's is proved where it is written.
+use lines::Question;
+ghost use mathlib.Core.Path.{_≡_};
+ghost use Rattle.lines.specs.Lines.{linesOf};
+
+// The most blocks that are read: more than can come.
+const BLOCKS: u64 = 0xffff_ffff_ffff_ffff;
+
+// Answers standard input on standard output, until it ends or nothing more can be written.
+pub fn list(asked: Question) {
+    let mut blocks = 0u64;
+    while blocks < BLOCKS {
+        if !block(asked) {
+            return;
+        }
+        blocks += 1;
+    }
+}
+
+// Reads one block and writes its lines. Answers whether the input may go on.
+fn block(asked: Question) -> bool {
+    let mut space = [0u8; 4352];
+    let size = lines::block(asked);
+    let got = stdio::read(&mut space, size);
+    let mut page = [0u8; lines::ROOM];
+    let end = lines::lines(asked, &space[..got], &mut page);
+    write(asked, &space[..got], &page[..end]) & (got == size)
+}
+
+// Writes what is the lines of these records.
+fn write(asked: Question, records: &[u8], made: &[u8]) -> bool
+    requires { ⌜ now made ≡ linesOf asked (now records) ⌝ }
+{
+    stdio::write(made)
+}
