@@ -117,9 +117,14 @@ refused-means body z = refused-tests body .0 (go (refusedCard body) refl)
 
 -- ---- the residual that is counted: a finite number without a minus
 
-never-solved : (c : Checked (Unit {0})) (r : Float) → asRefused c ≡ solved r → ⊥
-never-solved (pass good) r e = true≢false cc
-never-solved (refuse k) r e = true≢false cc
+-- no card of kind refused is accepted as solved
+pub never-solved : (body : List ℕ) (r : Float) → verdictOn kind.Refused body ≡ solved r → ⊥
+unfolding verdictOn
+never-solved body r h = go (refusedCard body) h
+  where
+    go : (c : Checked (Unit {0})) → asRefused c ≡ solved r → ⊥
+    go (pass good) e = true≢false cc
+    go (refuse k) e = true≢false cc
 
 pub residual-plus : (k : Kind) (body : List ℕ) (r : Float) → verdictOn k body ≡ solved r → Plus r
 unfolding verdictOn
@@ -128,4 +133,4 @@ residual-plus kind.Solved body r h =
     let time = timeAt (S .0) (xOf body) in
     let t = S .0 .t in
     subst Plus (sym (S .3)) (magnitude-plus (time ⊖ t) (sub-fits binary64 time t, near-difference time t (passed (S .2 .near))))
-residual-plus kind.Refused body r h = absurd (never-solved (refusedCard body) r h)
+residual-plus kind.Refused body r h = absurd (never-solved body r h)

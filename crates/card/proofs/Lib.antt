@@ -1,3 +1,4 @@
+pub mod Sizes
 pub mod StateWords
 pub mod Tests
 pub mod Rejected

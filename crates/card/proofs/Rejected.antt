@@ -1,5 +1,5 @@
--- A rejected card has a verdict that is not 0: every number with which a test of a card refuses is above 0, the problem's own refusals and
--- those of an arrival among them.
+-- A rejected card has a verdict that is above 0 and below 100: so is every number with which a test of a card refuses, the problem's own
+-- refusals and those of an arrival among them.
 use mathlib.Core.Path.{_≡_, ap}
 use mathlib.Core.List.{List}
 use Prim.Native.Nat.{ℕ, _<_}
@@ -44,11 +44,16 @@ as-refused : (c : Checked (Unit {0})) (n : ℕ) → asRefused c ≡ rejected n �
 as-refused (pass good) n e = cc
 as-refused (refuse k) n e = cc
 
-pub rejected-positive : (k : Kind) (body : List ℕ) (n : ℕ) → verdictOn k body ≡ rejected n → 0 < n
+-- the number of a rejected card is above 0 and below 100
+pub rejected-numbered : (k : Kind) (body : List ℕ) (n : ℕ) → verdictOn k body ≡ rejected n → (0 < n) × (n < 100)
 unfolding verdictOn
-rejected-positive kind.Solved body n e = numbered-is n (refusal-has (solved-refuses body) (as-solved (solvedCard body) (refuse n) e)) .0
-rejected-positive kind.Refused body n e = numbered-is n (refusal-has (refused-refuses body) (as-refused (refusedCard body) n e)) .0
+rejected-numbered kind.Solved body n e = numbered-is n (refusal-has (solved-refuses body) (as-solved (solvedCard body) (refuse n) e))
+rejected-numbered kind.Refused body n e = numbered-is n (refusal-has (refused-refuses body) (as-refused (refusedCard body) n e))
 
--- so where the number is 0, nothing is rejected
+-- so it is not 0
+pub rejected-positive : (k : Kind) (body : List ℕ) (n : ℕ) → verdictOn k body ≡ rejected n → 0 < n
+rejected-positive k body n e = rejected-numbered k body n e .0
+
+-- and where the number is 0, nothing is rejected
 pub zero-accepts : (k : Kind) (body : List ℕ) → numberIn (verdictOn k body) ≡ 0 → (n : ℕ) → verdictOn k body ≡ rejected n → ⊥
 zero-accepts k body z n e = omega (arith, rejected-positive k body n e, ap numberIn e)

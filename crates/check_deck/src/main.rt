@@ -1,7 +1,8 @@
 // Checks a deck: reads it from standard input and writes its listing. What the listing is, `listing`
 // says.
 ghost use mathlib.Core.Path.{_≡_};
-ghost use Rattle.listing.specs.Listing.{listingOf, readOfADeck};
+ghost use Rattle.deck.specs.Contents.{readOfADeck};
+ghost use Rattle.listing.specs.Listing.{listingOf};
 
 // One byte more than the largest deck has: what is longer has bytes left over, or is refused before.
 const MOST: usize = 35849;

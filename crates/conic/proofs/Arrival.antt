@@ -1,5 +1,5 @@
--- The arrival at x: what a state that passes its tests is, both ways. And the numbers with which it can refuse: none is 0, and one byte holds
--- each (`Numbered`).
+-- The arrival at x: what a state that passes its tests is, both ways. And the numbers with which it can refuse: each is above 0 and below 100
+-- (`Numbered`).
 use mathlib.Core.Path.{_≡_, refl, subst}
 use mathlib.Core.Logic.{_↔_}
 use mathlib.Core.Bool.{true, _&&_}
@@ -35,10 +35,10 @@ arrives o x state = (there, λ a. rw (a .allowed, a .state-is, a .finite) refl)
 -- ---- the numbers
 
 abbrev pub Numbered : ℕ → Type 0
-Numbered k = T (ltb 0 k && ltb k 256)
+Numbered k = T (ltb 0 k && ltb k 100)
 
-pub numbered-is : (k : ℕ) → Numbered k → (0 < k) × (k < 256)
-numbered-is k t = (ltb→lt 0 k (and-l (ltb 0 k) (ltb k 256) t), ltb→lt k 256 (and-r (ltb 0 k) (ltb k 256) t))
+pub numbered-is : (k : ℕ) → Numbered k → (0 < k) × (k < 100)
+numbered-is k t = (ltb→lt 0 k (and-l (ltb 0 k) (ltb k 100) t), ltb→lt k 100 (and-r (ltb 0 k) (ltb k 100) t))
 
 pub arrival-refuses : (o : Scaled) (x : Float) → Refuses Numbered (arrivalAt o x)
 unfolding arrivalOf arrivalAt

@@ -15,12 +15,11 @@ use Rattle.card.specs.Fields.{Card}
 use Rattle.card.specs.Said.{Said, numberIn}
 use Rattle.card.specs.Verdict.{verdictOn}
 use Rattle.deck.specs.declared.Totals.{Totals}
-use Rattle.deck.specs.Contents.{entryAt, countOf, cardsOf}
+use Rattle.deck.specs.Contents.{countOf, cardsOf}
 use Rattle.deck.specs.Tally.{Residuals, tallyOf}
 use Rattle.deck.specs.Check.{verdictsOf, judgedOf, tallied, answerOf, written, listAfter}
-use Rattle.deck.proofs.Cards.{as-many}
 use Rattle.deck.proofs.Tallied.{totals-add-up}
-use Rattle.deck.proofs.Opened.{opened}
+use Rattle.deck.proofs.Sizes.{few-cards}
 
 -- ---- an accepted deck: its cards, a verdict for each, and room for them
 
@@ -38,15 +37,14 @@ accepted-means deck room verdicts h =
     let C = rows-passed (cardsOf deck) (λ cards. must (leb (countOf deck) room) 39 (pass (verdictsOf cards))) h in
     let list = test-passed (leb (countOf deck) room) 39 (pass (verdictsOf (C .0))) (C .2) in
     let is : verdictsOf (C .0) ≡ verdicts = pass-once (list .1) in
-    let o = opened deck (countOf deck) (rw (C .1) refl) in
-    let many : length (C .0) ≡ countOf deck = as-many deck (countOf deck) 0 (entryAt (countOf deck)) (C .0) (sym (o .cards-are) ∙ C .1) in
+    let many = few-cards deck (C .0) (C .1) in
     record {
       cards = C .0;
       cards-are = C .1;
       verdicts-are = sym is;
-      few = o .most;
+      few = many .1;
       enough = leb-true (countOf deck) room (list .0);
-      as-many-verdicts = sym (ap length is) ∙ length-map (C .0) (λ (c : Card). verdictOn (c .kind) (c .body)) ∙ many;
+      as-many-verdicts = sym (ap length is) ∙ length-map (C .0) (λ (c : Card). verdictOn (c .kind) (c .body)) ∙ many .0;
     }
 
 -- the three totals add up to the count, which the list has room for

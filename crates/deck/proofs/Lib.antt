@@ -3,6 +3,7 @@ pub mod Walking
 pub mod Tallied
 pub mod Going
 pub mod Opened
+pub mod Sizes
 pub mod Accepted
 pub mod Theorems
 pub mod Worst

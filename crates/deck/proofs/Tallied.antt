@@ -1,6 +1,6 @@
--- Laws of the tally. The three totals add up to the number of verdicts. A card that is not accepted as solved changes neither mean nor worst,
--- wherever it stands: it leaves number, sum and largest as they are, and the cards after it see no more than these. Both are absent exactly
--- where no card is solved.
+-- Laws of the tally. The three totals add up to the number of verdicts, and each is the first verdict's and that of the others. A card that is
+-- not accepted as solved changes neither mean nor worst, wherever it stands: it leaves number, sum and largest as they are, and the cards after
+-- it see no more than these. Both are absent exactly where no card is solved.
 use mathlib.Core.Path.{_≡_, refl}
 use mathlib.Core.Logic.{_↔_}
 use mathlib.Core.Bool.{Bool, true, false, true≢false}
@@ -35,6 +35,28 @@ all-counted n (v ∷ verdicts) = omega (arith, all-counted (counted n v) verdict
 
 pub totals-add-up : (verdicts : List Said) → totalOf (countedAll nothing verdicts) ≡ length verdicts
 totals-add-up verdicts = omega (arith, all-counted nothing verdicts)
+
+-- the totals of n are those of l and those of r
+pub record Together (n l r : Running) : Type 0 where
+  pub solved-are : n .solved ≡ l .solved + r .solved
+  pub refused-are : n .refused ≡ l .refused + r .refused
+  pub rejected-are : n .rejected ≡ l .rejected + r .rejected
+
+one-together : (n : Running) (v : Said) → Together (counted n v) n (counted nothing v)
+one-together n (solved residual) = omega arith
+one-together n refused = omega arith
+one-together n (rejected k) = omega arith
+
+-- what was counted before, and what the verdicts come to by themselves
+all-together : (n : Running) (verdicts : List Said) → Together (countedAll n verdicts) n (countedAll nothing verdicts)
+unfolding countedAll
+all-together n [] = omega arith
+all-together n (v ∷ verdicts) = omega (arith, all-together (counted n v) verdicts, all-together (counted nothing v) verdicts, one-together n v)
+
+-- the first verdict, and the others
+pub first-and-others : (v : Said) (verdicts : List Said) → Together (countedAll nothing (v ∷ verdicts)) (counted nothing v) (countedAll nothing verdicts)
+unfolding countedAll
+first-and-others v verdicts = all-together (counted nothing v) verdicts
 
 -- ---- mean and worst are of the solved cards alone
 

@@ -63,3 +63,10 @@ counting count m = onward m (λ cards. pass count)
 abbrev pub Passes : Checked (List Card) → Type 0
 Passes (pass cards) = Unit
 Passes (refuse k) = ⊥
+
+-- The deck 7: the bytes of the largest deck; and what is read of a deck, one byte more
+abbrev pub largestDeck : ℕ
+largestDeck = 35848
+
+abbrev pub readOfADeck : ℕ
+readOfADeck = largestDeck + 1

@@ -1,5 +1,5 @@
--- Every number with which an entry refuses is not 0, and one byte holds it (`Numbered`). Each number stands beside its test, so the laws of
--- rows (`must-refuses`, `onward-refuses`) follow the definitions line by line.
+-- Every number with which an entry refuses is above 0 and below 100 (`Numbered`). Each number stands beside its test, so the laws of rows
+-- (`must-refuses`, `onward-refuses`) follow the definitions line by line.
 use lib.Ieee.{Float, le}
 use Rattle.exact.specs.Numbers.{magnitude}
 use Rattle.root.specs.Said as root

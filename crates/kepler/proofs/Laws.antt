@@ -1,5 +1,5 @@
 -- The laws of Kepler's answers. A guess is counted, and before the first one the count is 0 (`refused-before`, `counts`). A refusal's number is
--- not 0, and one byte holds it (`refusal-numbered`). Solved means near, finite, allowed and in the starting bracket (`solved-means`). A refusal
+-- above 0 and below 100 (`refusal-numbered`). Solved means near, finite, allowed and in the starting bracket (`solved-means`). A refusal
 -- that names a bracket, 9 or 10, names one in the starting bracket; the times of its ends are finite, the lower one at most the wanted time and
 -- the upper one at least (`bracket-means`); the times kept beside the ends are theirs (`times-kept`). Each is the law of the search, for the time of a scaled problem that passed the entry
 -- tests.

@@ -21,7 +21,7 @@ widthOf question.Root = 8
 widthOf question.Kepler = 68
 widthOf question.Theta = 64
 
-abbrev vector : Vector → List ℕ
+abbrev pub vector : Vector → List ℕ
 vector a = joined (number (a .x) ∷ number (a .y) ∷ number (a .z) ∷ [])
 
 -- Lines 2: `root NUMBER` or `refused NUMBER`
@@ -40,7 +40,7 @@ abbrev pub turned : Problem → conic.Said
 turned p = thetaOf (p .mu) (p .r) (p .v) (p .dt)
 
 -- Lines 1 to 3: what is asked of the record, and its answer's line
-unfoldable pub lineOf : Question → (record : List ℕ) → List ℕ
-lineOf question.Root record = rootLine (rootOf (numberAt record 0))
-lineOf question.Kepler record = outcomeLine (keplerOf (problemOf record))
-lineOf question.Theta record = outcomeLine (turned (problemOf record))
+unfoldable pub lineOf : Question → (bytes : List ℕ) → List ℕ
+lineOf question.Root bytes = rootLine (rootOf (numberAt bytes 0))
+lineOf question.Kepler bytes = outcomeLine (keplerOf (problemOf bytes))
+lineOf question.Theta bytes = outcomeLine (turned (problemOf bytes))

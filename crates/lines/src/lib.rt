@@ -8,13 +8,13 @@ use conic::Vector;
 use root::Answer;
 ghost use mathlib.Core.Path.{_≡_};
 ghost use Prim.Native.Nat.{_≤_};
-ghost use lib.ListN.{length, take};
-ghost use lib.Seq.{sets};
-ghost use Rattle.text.specs.Text.{endIn, handedIn};
+ghost use lib.ListN.{length};
+ghost use Rattle.text.specs.Text.{Put, handedIn};
 ghost use Rattle.root.specs.Said as root;
 ghost use Rattle.conic.specs.Said as conic;
-ghost use Rattle.lines.specs.Line.{widthOf, lineOf, rootLine, outcomeLine, vector, turned};
-ghost use Rattle.lines.specs.Lines.{linesOf, blockOf, blockBytes, longestText};
+ghost use Rattle.lines.specs.Line.{widthOf, lineOf};
+ghost use Rattle.lines.specs.Line as line;
+ghost use Rattle.lines.specs.Lines.{linesOf, blockOf, blockBytes};
 
 // What is asked of each record.
 pub enum Question {
@@ -52,17 +52,31 @@ pub fn lines(asked: Question, s: &[u8], out: &mut [u8]) -> usize
     ensures { λ r. ⌜ r ≡ length (linesOf asked (blockOf asked (now (s .entry)))) ⌝ }
     ensures { λ r. ⌜ now (out .exit) ≡ handedIn (linesOf asked (blockOf asked (now (s .entry)))) (now (out .entry)) ⌝ }
 {
-    let mut page = [0u8; ROOM];
     let mut size = block(asked);
     if s.len() < size {
         size = s.len();
     }
-    let end = write(asked, &s[..size], &mut page);
+    if out.len() < ROOM {
+        return in_little_room(asked, &s[..size], out);
+    }
+    write(asked, &s[..size], out)
+}
+
+// Whether the lines fit is only known once they are made.
+fn in_little_room(asked: Question, s: &[u8], out: &mut [u8]) -> usize
+    requires { ⌜ length (now s) ≤ blockBytes asked ⌝ }
+    ensures { λ r. ⌜ r ≡ length (linesOf asked (now (s .entry))) ⌝ }
+    ensures { λ r. ⌜ now (out .exit) ≡ handedIn (linesOf asked (now (s .entry))) (now (out .entry)) ⌝ }
+{
+    let mut page = [0u8; ROOM];
+    let end = write(asked, s, &mut page);
     text::hand(&page[..end], out)
 }
 
 // A line for each whole record of s, and `short` if there is more.
-fn write(asked: Question, s: &[u8], page: &mut [u8]) -> usize {
+fn write(asked: Question, s: &[u8], page: &mut [u8]) -> usize
+    ensures { λ r. ⌜ Put (now (page .entry)) 0 (linesOf asked (now (s .entry))) (now (page .exit)) r ⌝ }
+{
     let size = width(asked);
     let mut at = 0;
     let mut end = 0;
@@ -72,13 +86,15 @@ fn write(asked: Question, s: &[u8], page: &mut [u8]) -> usize {
         at = next;
     }
     if at < s.len() {
-        end = text::put(page, end, b"short\n");
+        return text::put(page, end, b"short\n");
     }
     end
 }
 
 // The line of one record, from index at on.
-fn line(asked: Question, s: &[u8], out: &mut [u8], at: usize) -> usize {
+fn line(asked: Question, s: &[u8], out: &mut [u8], at: usize) -> usize
+    ensures { λ r. ⌜ Put (now (out .entry)) at (lineOf asked (now (s .entry))) (now (out .exit)) r ⌝ }
+{
     match asked {
         Question::Root => root_line(root::root(card::number(s, 0)), out, at),
         Question::Kepler => outcome_line(kepler::kepler(card::problem(s)), out, at),
@@ -87,55 +103,64 @@ fn line(asked: Question, s: &[u8], out: &mut [u8], at: usize) -> usize {
 }
 
 // An angle problem has its angle where a problem has its time.
-fn turned(p: Problem) -> Outcome {
+fn turned(p: Problem) -> Outcome
+    ensures { λ r. ⌜ conic.said r ≡ line.turned p ⌝ }
+{
     theta::theta(p.mu, p.r, p.v, p.dt)
 }
 
 // `root HEX` or `refused NUMBER`.
-fn root_line(answer: Answer, out: &mut [u8], at: usize) -> usize {
-    let mut end = at;
+fn root_line(answer: Answer, out: &mut [u8], at: usize) -> usize
+    ensures { λ r. ⌜ Put (now (out .entry)) at (line.rootLine (root.said answer)) (now (out .exit)) r ⌝ }
+{
     match answer {
         Answer::Root(x) => {
-            end = text::put(out, end, b"root");
+            let mut end = text::put(out, at, b"root");
             end = text::number(out, end, x);
+            text::put(out, end, b"\n")
         }
         Answer::Refused(why) => {
-            end = text::put(out, end, b"refused");
+            let mut end = text::put(out, at, b"refused");
             end = text::count(out, end, why.number());
+            text::put(out, end, b"\n")
         }
     }
-    text::put(out, end, b"\n")
 }
 
 // `solved COUNT X RX RY RZ VX VY VZ`, `refused NUMBER COUNT` or `refused NUMBER COUNT LO HI`.
-fn outcome_line(outcome: Outcome, out: &mut [u8], at: usize) -> usize {
-    let mut end = at;
+fn outcome_line(outcome: Outcome, out: &mut [u8], at: usize) -> usize
+    ensures { λ r. ⌜ Put (now (out .entry)) at (line.outcomeLine (conic.said outcome)) (now (out .exit)) r ⌝ }
+{
     match outcome {
         Outcome::Solved { x, count, state } => {
-            end = text::put(out, end, b"solved");
+            let mut end = text::put(out, at, b"solved");
             end = text::count(out, end, count);
             end = text::number(out, end, x);
             end = vector(state.r, out, end);
             end = vector(state.v, out, end);
+            text::put(out, end, b"\n")
         }
         Outcome::Refused(why, count) => {
-            end = text::put(out, end, b"refused");
+            let mut end = text::put(out, at, b"refused");
             end = text::count(out, end, why.number());
             end = text::count(out, end, count);
+            text::put(out, end, b"\n")
         }
         Outcome::RefusedWithBracket(why, count, lo, hi) => {
-            end = text::put(out, end, b"refused");
+            let mut end = text::put(out, at, b"refused");
             end = text::count(out, end, why.number());
             end = text::count(out, end, count);
             end = text::number(out, end, lo);
             end = text::number(out, end, hi);
+            text::put(out, end, b"\n")
         }
     }
-    text::put(out, end, b"\n")
 }
 
-fn vector(v: Vector, out: &mut [u8], at: usize) -> usize {
-    let y = text::number(out, at, v.x);
-    let z = text::number(out, y, v.y);
-    text::number(out, z, v.z)
+fn vector(v: Vector, out: &mut [u8], at: usize) -> usize
+    ensures { λ r. ⌜ Put (now (out .entry)) at (line.vector v) (now (out .exit)) r ⌝ }
+{
+    let mut end = text::number(out, at, v.x);
+    end = text::number(out, end, v.y);
+    text::number(out, end, v.z)
 }

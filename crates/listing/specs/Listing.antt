@@ -22,8 +22,11 @@ abbrev pub verdictNumber : Card → ℕ
 verdictNumber c = numberIn (verdictOn (c .kind) (c .body))
 
 -- 2: a line for each card, with its place
+abbrev pub lineOf : (place : ℕ) → Kind → (verdict : ℕ) → List ℕ
+lineOf place kind verdict = joined (text "card" ∷ count place ∷ kindWord kind ∷ count verdict ∷ text "\n" ∷ [])
+
 abbrev pub cardLine : (place : ℕ) → Card → List ℕ
-cardLine place c = joined (text "card" ∷ count place ∷ kindWord (c .kind) ∷ count (verdictNumber c) ∷ text "\n" ∷ [])
+cardLine place c = lineOf place (c .kind) (verdictNumber c)
 
 unfoldable pub cardLines : (place : ℕ) → List Card → List ℕ
 cardLines place [] = []
@@ -56,12 +59,6 @@ linesFor (refuse k) = refusedLine k
 unfoldable pub listingOf : (deck : List ℕ) → List ℕ
 listingOf deck = linesFor (cardsOf deck)
 
--- the bytes of the longest listing, of the largest deck, and 1: what is read of a deck
+-- the bytes of the longest listing
 abbrev pub longestListing : ℕ
 longestListing = 5087
-
-abbrev pub largestDeck : ℕ
-largestDeck = 35848
-
-abbrev pub readOfADeck : ℕ
-readOfADeck = 35849

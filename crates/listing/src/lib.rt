@@ -10,9 +10,9 @@ use deck::Residuals;
 use deck::Totals;
 ghost use mathlib.Core.Path.{_≡_};
 ghost use Prim.Native.Nat.{_≤_};
-ghost use lib.ListN.{length, take};
-ghost use lib.Seq.{sets};
-ghost use Rattle.text.specs.Text.{endIn, handedIn};
+ghost use lib.ListN.{length};
+ghost use Rattle.text.specs.Text.{Put, handedIn};
+ghost use Rattle.deck.specs.Said.{told};
 ghost use Rattle.listing.specs.Listing as listing;
 
 // The bytes of the longest listing, and the most cards.
@@ -30,7 +30,10 @@ pub fn listing(deck: &[u8], out: &mut [u8]) -> usize
     text::hand(&page[..end], out)
 }
 
-fn write(deck: &[u8], page: &mut [u8]) -> usize {
+// The listing, from the page's first byte on.
+fn write(deck: &[u8], page: &mut [u8]) -> usize
+    ensures { λ r. ⌜ Put (now (page .entry)) 0 (listing.listingOf (now (deck .entry))) (now (page .exit)) r ⌝ }
+{
     let mut verdicts = [0u32; CARDS];
     match deck::check(deck, &mut verdicts) {
         Answer::Refused(why) => refused(why.number(), page),
@@ -44,13 +47,15 @@ fn write(deck: &[u8], page: &mut [u8]) -> usize {
 }
 
 // `deck NUMBER`.
-fn refused(number: u32, page: &mut [u8]) -> usize {
+fn refused(number: u32, page: &mut [u8]) -> usize
+    ensures { λ r. ⌜ Put (now (page .entry)) 0 (listing.refusedLine number) (now (page .exit)) r ⌝ }
+{
     let mut end = text::put(page, 0, b"deck");
     end = text::count(page, end, number);
     text::put(page, end, b"\n")
 }
 
-// A line for each card.
+// A line for each card of an accepted deck, which has no card without a kind.
 fn cards(deck: &[u8], verdicts: &[u32], count: u32, page: &mut [u8]) -> usize
     requires { ⌜ count ≤ length (now verdicts) ⌝ }
 {
@@ -58,32 +63,38 @@ fn cards(deck: &[u8], verdicts: &[u32], count: u32, page: &mut [u8]) -> usize
     let mut end = 0;
     while i < count {
         let place = i as usize;
-        end = card_line(i + 1, deck::kind_at(deck, i), verdicts[place], page, end);
+        let Named::Kind(kind) = deck::kind_at(deck, i) else {
+            return end;
+        };
+        end = card_line(i + 1, kind, verdicts[place], page, end);
         i += 1;
     }
     end
 }
 
-// `card PLACE KIND VERDICT`. An accepted deck has no card without a kind.
-fn card_line(place: u32, named: Named, verdict: u32, page: &mut [u8], at: usize) -> usize {
+// `card PLACE KIND VERDICT`.
+fn card_line(place: u32, kind: Kind, verdict: u32, page: &mut [u8], at: usize) -> usize
+    ensures { λ r. ⌜ Put (now (page .entry)) at (listing.lineOf place kind verdict) (now (page .exit)) r ⌝ }
+{
     let mut end = text::put(page, at, b"card");
     end = text::count(page, end, place);
-    end = kind_word(named, page, end);
+    end = kind_word(kind, page, end);
     end = text::count(page, end, verdict);
     text::put(page, end, b"\n")
 }
 
-fn kind_word(named: Named, page: &mut [u8], at: usize) -> usize {
-    let Named::Kind(kind) = named else {
-        return at;
-    };
+fn kind_word(kind: Kind, page: &mut [u8], at: usize) -> usize
+    ensures { λ r. ⌜ Put (now (page .entry)) at (listing.kindWord kind) (now (page .exit)) r ⌝ }
+{
     match kind {
         Kind::Solved => text::put(page, at, b" solved"),
         Kind::Refused => text::put(page, at, b" refused"),
     }
 }
 
-fn totals_line(totals: Totals, page: &mut [u8], at: usize) -> usize {
+fn totals_line(totals: Totals, page: &mut [u8], at: usize) -> usize
+    ensures { λ r. ⌜ Put (now (page .entry)) at (listing.totalsLine totals) (now (page .exit)) r ⌝ }
+{
     let mut end = text::put(page, at, b"solved");
     end = text::count(page, end, totals.solved);
     end = text::put(page, end, b" refused");
@@ -93,7 +104,9 @@ fn totals_line(totals: Totals, page: &mut [u8], at: usize) -> usize {
     text::put(page, end, b"\n")
 }
 
-fn residual_lines(residuals: Residuals, page: &mut [u8], at: usize) -> usize {
+fn residual_lines(residuals: Residuals, page: &mut [u8], at: usize) -> usize
+    ensures { λ r. ⌜ Put (now (page .entry)) at (listing.residualLines (told residuals)) (now (page .exit)) r ⌝ }
+{
     match residuals {
         Residuals::Absent => text::put(page, at, b"mean none\nworst none\n"),
         Residuals::Known { mean, worst } => {

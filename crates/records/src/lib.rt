@@ -13,8 +13,10 @@ const BLOCKS: u64 = 0xffff_ffff_ffff_ffff;
 // Answers standard input on standard output, until it ends or nothing more can be written.
 pub fn list(asked: Question) {
     let mut blocks = 0u64;
+    let mut space = [0u8; 4352];
+    let mut page = [0u8; lines::ROOM];
     while blocks < BLOCKS {
-        if !block(asked) {
+        if !block(asked, &mut space, &mut page) {
             return;
         }
         blocks += 1;
@@ -22,12 +24,10 @@ pub fn list(asked: Question) {
 }
 
 // Reads one block and writes its lines. Answers whether the input may go on.
-fn block(asked: Question) -> bool {
-    let mut space = [0u8; 4352];
+fn block(asked: Question, space: &mut [u8], page: &mut [u8]) -> bool {
     let size = lines::block(asked);
-    let got = stdio::read(&mut space, size);
-    let mut page = [0u8; lines::ROOM];
-    let end = lines::lines(asked, &space[..got], &mut page);
+    let got = stdio::read(space, size);
+    let end = lines::lines(asked, &space[..got], page);
     write(asked, &space[..got], &page[..end]) & (got == size)
 }
 

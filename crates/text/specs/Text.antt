@@ -2,6 +2,7 @@
 use Prim.Native.Nat.{ℕ, zero, suc, _+_, _/_, _%_, min}
 use Prim.Native.Char.{code}
 use Prim.Native.String.{String, [] as ended, _∷_ as _then_}
+use mathlib.Core.Path.{_≡_}
 use mathlib.Core.Bool.{cond}
 use mathlib.Core.List.{List, [], _∷_, _++_}
 use lib.Dec.{ltb, leb}
@@ -39,12 +40,23 @@ abbrev pub count : ℕ → List ℕ
 count n = 32 ∷ decimal 10 n
 
 -- Text 3: a number, as its word
-abbrev pub number : Float → List ℕ
-number x = 32 ∷ hex 16 (wordOf x)
+abbrev pub worded : ℕ → List ℕ
+worded w = 32 ∷ hex 16 w
 
--- where a piece ends that is written from index `at` on into a buffer: what goes past its end is cut off. What the buffer then holds is `sets`
-abbrev pub endIn : List ℕ → (at : ℕ) → List ℕ → ℕ
+abbrev pub number : Float → List ℕ
+number x = worded (wordOf x)
+
+-- a piece written into a buffer from index `at` on, and where it ends: what goes past the buffer's end is cut off
+unfoldable pub putIn : (buffer : List ℕ) (at : ℕ) (piece : List ℕ) → List ℕ
+putIn buffer at piece = sets buffer at piece
+
+unfoldable pub endIn : (buffer : List ℕ) (at : ℕ) (piece : List ℕ) → ℕ
 endIn buffer at piece = min (at + length piece) (length buffer)
+
+-- both at once: `piece` was written from index `at` on, up to index `end`
+pub record Put (before : List ℕ) (at : ℕ) (piece after : List ℕ) (end : ℕ) : Type 0 where
+  pub ends : end ≡ endIn before at piece
+  pub holds : after ≡ putIn before at piece
 
 -- Text 4: a whole text handed over in a buffer: at its front, where there is room for all of it; else the buffer stays as it was
 abbrev pub handedIn : List ℕ → List ℕ → List ℕ

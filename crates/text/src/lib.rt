@@ -11,7 +11,7 @@ ghost use Rattle.text.specs.Text as text;
 // Puts s into out from index at on, as far as out goes. Answers where it ends.
 pub fn put(out: &mut [u8], at: usize, s: &[u8]) -> usize
     ensures { λ r. ⌜ r ≡ text.endIn (now (out .entry)) at (now (s .entry)) ⌝ }
-    ensures { λ r. ⌜ now (out .exit) ≡ sets (now (out .entry)) at (now (s .entry)) ⌝ }
+    ensures { λ r. ⌜ now (out .exit) ≡ text.putIn (now (out .entry)) at (now (s .entry)) ⌝ }
 {
     if out.len() < at {
         return out.len();
@@ -21,23 +21,31 @@ pub fn put(out: &mut [u8], at: usize, s: &[u8]) -> usize
     at + n
 }
 
-// A space, and n in decimal.
+// A space, and n in decimal, from the last digit on.
 pub fn count(out: &mut [u8], at: usize, n: u32) -> usize
     ensures { λ r. ⌜ r ≡ text.endIn (now (out .entry)) at (text.count n) ⌝ }
-    ensures { λ r. ⌜ now (out .exit) ≡ sets (now (out .entry)) at (text.count n) ⌝ }
+    ensures { λ r. ⌜ now (out .exit) ≡ text.putIn (now (out .entry)) at (text.count n) ⌝ }
 {
-    let next = put(out, at, b" ");
-    decimal(out, next, 10, n)
+    let mut digits = [32u8; 11];
+    digits[10] = digit(n as u64 % 10);
+    let mut left = 10;
+    let mut rest = n as u64 / 10;
+    while 0 < rest {
+        left -= 1;
+        digits[left] = digit(rest % 10);
+        rest /= 10;
+    }
+    let first = left - 1;
+    put(out, at, &digits[first..])
 }
 
 // A space, and x as the 16 hex digits of its word.
 pub fn number(out: &mut [u8], at: usize, x: f64) -> usize
     ensures { λ r. ⌜ r ≡ text.endIn (now (out .entry)) at (text.number x) ⌝ }
-    ensures { λ r. ⌜ now (out .exit) ≡ sets (now (out .entry)) at (text.number x) ⌝ }
+    ensures { λ r. ⌜ now (out .exit) ≡ text.putIn (now (out .entry)) at (text.number x) ⌝ }
 {
-    let next = put(out, at, b" ");
     let digits = hex(exact::word(x));
-    put(out, next, &digits)
+    put(out, at, &digits)
 }
 
 // Hands a whole text over in out, if out has room for it. Answers how long the text is.
@@ -63,30 +71,14 @@ fn copy(out: &mut [u8], at: usize, s: &[u8], n: usize)
     }
 }
 
-// The decimal digits of n, at most k of them: first those of n / 10, then the last one.
-fn decimal(out: &mut [u8], at: usize, k: u32, n: u32) -> usize
-    ensures { λ r. ⌜ r ≡ text.endIn (now (out .entry)) at (text.decimal k n) ⌝ }
-    ensures { λ r. ⌜ now (out .exit) ≡ sets (now (out .entry)) at (text.decimal k n) ⌝ }
+// A space, and the 16 hex digits of w, from the last one on.
+fn hex(w: u64) -> [u8; 17]
+    ensures { λ r. ⌜ r ≡ text.worded w ⌝ }
 {
-    if k == 0 {
-        return put(out, at, b"");
-    }
-    let mut next = at;
-    if 10 <= n {
-        next = decimal(out, at, k - 1, n / 10);
-    }
-    let last = [digit(n as u64 % 10)];
-    put(out, next, &last)
-}
-
-// The 16 hex digits of w, from the last one on.
-fn hex(w: u64) -> [u8; 16]
-    ensures { λ r. ⌜ r ≡ text.hex 16 w ⌝ }
-{
-    let mut digits = [0u8; 16];
-    let mut left = 16;
+    let mut digits = [32u8; 17];
+    let mut left = 17;
     let mut rest = w;
-    while 0 < left {
+    while 1 < left {
         left -= 1;
         digits[left] = digit(rest % 16);
         rest /= 16;
@@ -98,7 +90,24 @@ fn digit(d: u64) -> u8
     requires { ⌜ d < 16 ⌝ }
     ensures { λ r. ⌜ r ≡ text.digit d ⌝ }
 {
-    if d < 10 { 48 + d as u8 } else { 87 + d as u8 }
+    match d {
+        0 => 48,
+        1 => 49,
+        2 => 50,
+        3 => 51,
+        4 => 52,
+        5 => 53,
+        6 => 54,
+        7 => 55,
+        8 => 56,
+        9 => 57,
+        10 => 97,
+        11 => 98,
+        12 => 99,
+        13 => 100,
+        14 => 101,
+        _ => 102,
+    }
 }
 
 fn least(a: usize, b: usize) -> usize

@@ -1,0 +1,90 @@
+-- How many bytes a deck has: an accepted one has at most 35,848, and what stands behind the first 35,849 bytes changes nothing. For entries and
+-- bodies lie within those, so each test but the last finds the same, and the last one, that nothing is left over, fails either way.
+use mathlib.Core.Path.{_≡_, refl, sym, ap, ap₂, _∙_, fun-ext}
+use mathlib.Core.Bool.{Bool, true, false}
+use mathlib.Core.List.{List, [], _∷_, _++_}
+use Prim.Native.Nat.{ℕ, zero, suc, _+_, _*_, _≤_, _<_}
+use native.Mathlib.Omega.{arith}
+use borrow.Author.Tests.{eqb-true, leb-true, le-leb, ne-eqb}
+use lib.Dec.{eqb, leb}
+use lib.ListN.{length, take, drop, length-append, length-drop}
+use lib.Seq.{take-append-le, drop-append-le}
+use Rattle.words.proofs.Written.{valueAt-front}
+use Rattle.rows.specs.Rows.{Checked, pass, must, onward}
+use Rattle.rows.proofs.Laws.{test-passed}
+use Rattle.card.specs.declared.Kind.{Kind}
+use Rattle.card.specs.Fields.{Card, sizeOf}
+use Rattle.card.proofs.Sizes.{size-most}
+use Rattle.deck.specs.Contents.{entryAt, versionOf, countOf, entryIn, cardsFrom, cardsOf, largestDeck, readOfADeck}
+use Rattle.deck.proofs.Cards.{cardAt, one-more, as-many}
+use Rattle.deck.proofs.Opened.{opened}
+
+-- ---- the largest deck
+
+-- after the last body the deck ends, so `left` bodies from `at` on leave no more than 128 bytes for each
+ends-by : (deck : List ℕ) (left i at : ℕ) (cards : List Card) → cardsFrom deck left i at ≡ pass cards → length deck ≤ at + 128 * left
+unfolding cardsFrom
+ends-by deck zero i at cards h = omega (arith, eqb-true at (length deck) (test-passed (eqb at (length deck)) 38 (pass []) h .0))
+ends-by deck (suc left) i at cards h =
+    let m = one-more deck left i at cards h in
+    omega (arith, ends-by deck left (i + 1) (at + sizeOf (m .kind)) (m .rest) (m .others), size-most (m .kind))
+
+-- an accepted deck has as many cards as it counts, at most 256
+pub few-cards : (deck : List ℕ) (cards : List Card) → cardsOf deck ≡ pass cards → (length cards ≡ countOf deck) × (countOf deck ≤ 256)
+unfolding onward
+few-cards deck cards h =
+    let o = opened deck (countOf deck) (rw h refl) in
+    (as-many deck (countOf deck) 0 (entryAt (countOf deck)) cards (sym (o .cards-are) ∙ h), o .most)
+
+-- and no more bytes than 256 of the largest cards
+pub largest : (deck : List ℕ) (cards : List Card) → cardsOf deck ≡ pass cards → length deck ≤ largestDeck
+unfolding onward
+largest deck cards h =
+    let o = opened deck (countOf deck) (rw h refl) in
+    omega (arith, ends-by deck (countOf deck) 0 (entryAt (countOf deck)) cards (sym (o .cards-are) ∙ h), o .most)
+
+-- ---- what stands behind
+
+-- what a test leads to counts only where the test holds
+behind-a-test : {A : Type 0} (t : Bool) (k : ℕ) (m n : Checked A) → (t ≡ true → m ≡ n) → must t k m ≡ must t k n
+unfolding must
+behind-a-test true k m n same = same refl
+behind-a-test false k m n same = refl
+
+module _ (front rest : List ℕ) where
+  -- a test of the length that the front passes, the whole passes too
+  same-test : (n : ℕ) → n ≤ length front → leb n (length (front ++ rest)) ≡ leb n (length front)
+  same-test n h = le-leb n (length (front ++ rest)) (simp length-append (omega arith)) ∙ sym (le-leb n (length front) h)
+
+  -- an entry within the front, with a body within it
+  same-entry : (i at : ℕ) → entryAt (i + 1) ≤ length front → at + 128 ≤ length front → entryIn (front ++ rest) i at ≡ entryIn front i at
+  unfolding entryIn
+  same-entry i at e b =
+      let inside : (kind : Kind) → leb (at + sizeOf kind) (length (front ++ rest)) ≡ leb (at + sizeOf kind) (length front) = λ kind. same-test (at + sizeOf kind) (omega (arith, size-most kind)) in
+      simp (valueAt-front 4 front rest (entryAt i) (omega arith), valueAt-front 4 front rest (entryAt i + 4) (omega arith), valueAt-front 4 front rest (entryAt i + 8) (omega arith), inside)
+
+  -- its card
+  same-card : (kind : Kind) (at : ℕ) → at + 128 ≤ length front → cardAt (front ++ rest) kind at ≡ cardAt front kind at
+  same-card kind at b =
+      let room : sizeOf kind ≤ length (drop at front) = simp length-drop (omega (arith, size-most kind)) in
+      ap (λ (body : List ℕ). record { kind = kind; body = body }) (ap (take (sizeOf kind)) (drop-append-le at front rest (omega arith)) ∙ take-append-le (sizeOf kind) (drop at front) rest room)
+
+  -- entries within the front, with bodies within it and a byte behind them
+  same-cards : (left i at : ℕ) → entryAt (i + left) ≤ length front → at + 128 * left < length front → cardsFrom (front ++ rest) left i at ≡ cardsFrom front left i at
+  unfolding cardsFrom
+  same-cards zero i at e b = rw (ne-eqb at (length (front ++ rest)) (simp length-append (omega arith)), ne-eqb at (length front) (omega arith)) refl
+  same-cards (suc left) i at e b =
+      ap₂ onward (same-entry i at (omega arith) (omega arith)) (fun-ext λ kind.
+      ap₂ (λ (others : Checked (List Card)) (c : Card). onward others (λ more. pass (c ∷ more)))
+      (same-cards left (i + 1) (at + sizeOf kind) (omega arith) (omega (arith, size-most kind)))
+      (same-card kind at (omega arith)))
+
+  -- what stands behind the first 35,849 bytes changes nothing
+  pub read-is-enough : readOfADeck ≤ length front → cardsOf (front ++ rest) ≡ cardsOf front
+  unfolding cardsOf
+  read-is-enough h =
+      let n = countOf front in
+      rw (valueAt-front 4 front rest 0 (omega arith), valueAt-front 4 front rest 4 (omega arith), same-test 8 (omega arith))
+      (ap (λ (m : Checked (List Card)). must (leb 8 (length front)) 30 (must (eqb (versionOf front) 1) 31 m)) (behind-a-test (leb n 256) 32 _ _ (λ few.
+      let most = leb-true n 256 few in
+      ap₂ (λ (t : Bool) (m : Checked (List Card)). must t 33 m) (same-test (entryAt n) (omega arith)) (same-cards n 0 (entryAt n) (omega arith) (omega arith)))))

@@ -1,0 +1,122 @@
+-- How long a listing can be: at most 5,087 bytes. A card's line has at most 17 bytes and the digits of its place, two less where the card is
+-- accepted as solved and one less where it is accepted as refused. These pay for the totals' digits, and for mean and worst but for 44 bytes.
+use mathlib.Core.Path.{_≡_, refl}
+use mathlib.Core.Bool.{Bool, true, false}
+use mathlib.Core.List.{List, [], _∷_}
+use Prim.Native.Nat.{ℕ, suc, _+_, _*_, _-_, _≤_, _<_}
+use native.Mathlib.Omega.{arith}
+use borrow.Author.Tests.{ltb-true, ltb-false}
+use lib.Dec.{ltb}
+use lib.Ieee.{Float}
+use lib.ListN.{length, length-append, length-map}
+use Rattle.text.specs.Text.{text, joined, decimal, count}
+use Rattle.text.proofs.Length.{length-under, length-self, length-number, length-count}
+use Rattle.rows.specs.Rows.{Checked, pass, refuse}
+use Rattle.card.specs.declared.Kind.{Kind}
+use Rattle.card.specs.declared.Kind.the-variants as kind
+use Rattle.card.specs.Fields.{Card}
+use Rattle.card.specs.Said.{Said, solved, refused, rejected, numberIn}
+use Rattle.card.specs.Verdict.{verdictOn}
+use Rattle.card.proofs.Rejected.{rejected-numbered}
+use Rattle.card.proofs.Accepted.{never-solved}
+use Rattle.deck.specs.declared.Totals.{Totals}
+use Rattle.deck.specs.Contents.{cardsOf}
+use Rattle.deck.specs.Tally.{nothing, counted, countedAll, Residuals, absent, known, residualsOf, totalsOf}
+use Rattle.deck.specs.Check.{verdictsOf}
+use Rattle.deck.proofs.Tallied.{totals-add-up, first-and-others, known-is}
+use Rattle.deck.proofs.Sizes.{few-cards}
+use Rattle.listing.specs.Listing.{kindWord, cardLine, cardLines, totalsLine, residualLines, acceptedLines, linesFor, listingOf, longestListing}
+
+-- ---- the digits of the places
+
+-- a place below 1000 has one digit, from 10 on one more, from 100 on one more: so many have all places before p
+unfoldable digitsBefore : ℕ → ℕ
+digitsBefore p = (p - 1) + (p - 10) + (p - 100)
+
+-- a place's own digits lead on to the next
+digits-of-place : (p : ℕ) → 0 < p → p < 1000 → length (decimal 10 p) + digitsBefore p ≤ digitsBefore (p + 1)
+unfolding digitsBefore
+digits-of-place p h l = go (ltb p 10) (ltb p 100) refl refl
+  where
+    go : (a b : Bool) → ltb p 10 ≡ a → ltb p 100 ≡ b → length (decimal 10 p) + digitsBefore p ≤ digitsBefore (p + 1)
+    go true b e f = let below = ltb-true p 10 e in omega (arith, length-under 10 p 1 (omega arith) (omega arith))
+    go false true e f = let from = ltb-false p 10 e in let below = ltb-true p 100 f in omega (arith, length-under 10 p 2 (omega arith) (omega arith))
+    go false false e f = let from = ltb-false p 100 f in omega (arith, length-under 10 p 3 (omega arith) (omega arith))
+
+-- ---- the cards' lines
+
+-- an accepted card's number has one digit, a rejected one's two at most
+accepted-digit : length (decimal 10 0) ≤ 1
+accepted-digit = length-under 10 0 1 (omega arith) (omega arith)
+
+rejected-digits : (k : Kind) (body : List ℕ) (j : ℕ) → verdictOn k body ≡ rejected j → length (decimal 10 j) ≤ 2
+rejected-digits k body j e = length-under 10 j 2 (omega arith) (rejected-numbered k body j e .1)
+
+-- a card's line, from its kind and verdict
+abbrev lineOf : (place : ℕ) → Kind → Said → List ℕ
+lineOf place k v = joined (text "card" ∷ count place ∷ kindWord k ∷ count (numberIn v) ∷ text "\n" ∷ [])
+
+-- at most 17 bytes and the digits of the place; two less of a card accepted as solved, one less of one accepted as refused
+line-most : (place : ℕ) (k : Kind) (body : List ℕ) (v : Said) → verdictOn k body ≡ v → length (lineOf place k v) + (2 * counted nothing v .solved + counted nothing v .refused) ≤ 17 + length (decimal 10 place)
+line-most place kind.Solved body (solved x) e = simp length-append (omega (arith, accepted-digit))
+line-most place kind.Solved body refused e = simp length-append (omega (arith, accepted-digit))
+line-most place kind.Solved body (rejected j) e = simp length-append (omega (arith, rejected-digits kind.Solved body j e))
+line-most place kind.Refused body (solved x) e = absurd (never-solved body x e)
+line-most place kind.Refused body refused e = simp length-append (omega (arith, accepted-digit))
+line-most place kind.Refused body (rejected j) e = simp length-append (omega (arith, rejected-digits kind.Refused body j e))
+
+-- the lines of the cards from a place on
+cards-most : (place : ℕ) (cards : List Card) → 0 < place → place + length cards ≤ 1000 → let n = countedAll nothing (verdictsOf cards) in length (cardLines place cards) + (2 * n .solved + n .refused) + digitsBefore place ≤ 17 * length cards + digitsBefore (place + length cards)
+unfolding cardLines countedAll
+cards-most place [] h l = let end : place + 0 ≡ place = omega arith in rw end (omega arith)
+cards-most place (c ∷ cards) h l =
+    let verdict = verdictOn (c .kind) (c .body) in
+    let on : place + suc (length cards) ≡ place + 1 + length cards = omega arith in
+    let all = length-append (cardLine place c) (cardLines (place + 1) cards) in
+    let line = line-most place (c .kind) (c .body) verdict refl in
+    let digits = digits-of-place place h (omega arith) in
+    let others = cards-most (place + 1) cards (omega arith) (omega arith) in
+    let totals = first-and-others verdict (verdictsOf cards) in
+    rw on (omega arith)
+
+-- ---- an accepted deck
+
+-- so many digits have the places of 256 cards
+few-digits : (p : ℕ) → p ≤ 257 → digitsBefore p ≤ 660
+unfolding digitsBefore
+few-digits p h = omega arith
+
+-- mean and worst, which are known only where a card is solved, with the digits of the number of solved cards
+residuals-most : (n : ℕ) (r : Residuals) → ((mean worst : Float) → r ≡ known mean worst → n ≡ 0 → ⊥) → length (residualLines r) + length (decimal 10 n) ≤ 44 + 2 * n
+residuals-most n absent some = omega (arith, length-self 10 n)
+residuals-most n (known mean worst) some = simp length-append (omega (arith, some mean worst refl, length-number mean, length-number worst, length-self 10 n))
+
+-- the totals' line, by the digits of the three
+totals-line : (n : Totals) → length (totalsLine n) ≡ 27 + length (decimal 10 (n .solved)) + length (decimal 10 (n .refused)) + length (decimal 10 (n .rejected))
+totals-line n = simp length-append (omega arith)
+
+-- all lines of at most 256 cards
+accepted-most : (cards : List Card) → length cards ≤ 256 → length (acceptedLines cards) ≤ longestListing
+accepted-most cards few =
+    let verdicts = verdictsOf cards in
+    let n = countedAll nothing verdicts in
+    let all = totals-add-up verdicts in
+    let as-many = length-map cards (λ (c : Card). verdictOn (c .kind) (c .body)) in
+    let lines = cards-most 1 cards (omega arith) (omega arith) in
+    let digits = few-digits (1 + length cards) (omega arith) in
+    let totals = totals-line (totalsOf n) in
+    let refused-digits = length-self 10 (n .refused) in
+    let rejected-digits = length-under 10 (n .rejected) 3 (omega arith) (omega arith) in
+    let residuals = residuals-most (n .solved) (residualsOf n) (λ mean worst e. known-is n mean worst e .0) in
+    simp length-append (omega arith)
+
+-- ---- any deck
+
+-- no listing has more than 5,087 bytes
+pub longest : (deck : List ℕ) → length (listingOf deck) ≤ longestListing
+unfolding listingOf
+longest deck = go (cardsOf deck) refl
+  where
+    go : (m : Checked (List Card)) → cardsOf deck ≡ m → length (linesFor m) ≤ longestListing
+    go (pass cards) e = accepted-most cards (omega (arith, few-cards deck cards e))
+    go (refuse k) e = simp length-append (omega (arith, length-count k))
