@@ -1,6 +1,7 @@
 // Checks a deck: reads it from standard input and writes its listing. What the listing is, `listing`
 // says.
 ghost use mathlib.Core.Path.{_≡_};
+ghost use Rattle.io.specs.Counts.{Counts};
 ghost use Rattle.deck.specs.Contents.{readOfADeck};
 ghost use Rattle.listing.specs.Listing.{listingOf};
 
@@ -15,7 +16,10 @@ fn main() {
     write(&space[..got], &page[..end]);
 }
 
+// Reads as much of a deck as can change its listing.
 fn read(space: &mut [u8], most: usize) -> usize
+    requires { ⌜ most ≡ readOfADeck ⌝ }
+    ensures { λ r. ⌜ Counts r (now (space .exit)) ⌝ }
 {
     stdio::read(space, most)
 }

@@ -1,11 +1,12 @@
 -- What an accepted deck has: its cards, a verdict for each, and totals that add up to its count. And the list afterwards: a refused deck leaves
--- it as it was lent, an accepted one writes the verdicts into its first places, and any deck leaves it as long as it was.
+-- it as it was lent, an accepted one writes the verdicts into its first places, and any deck leaves it as long as it was. And what an answer
+-- tells of the cards.
 use mathlib.Core.Path.{_≡_, refl, sym, ap, _∙_}
 use mathlib.Core.Bool.{true≢false}
 use mathlib.Core.List.{List, _++_, map}
 use Prim.Native.Nat.{ℕ, _+_, _≤_}
 use native.Mathlib.Omega.{arith}
-use borrow.Author.Tests.{leb-true}
+use borrow.Author.Tests.{leb-true, le-leb}
 use lib.Dec.{leb}
 use lib.ListN.{length, take, drop, length-append, length-drop, length-map}
 use lib.Seq.{take-at, drop-at}
@@ -15,9 +16,11 @@ use Rattle.card.specs.Fields.{Card}
 use Rattle.card.specs.Said.{Said, numberIn}
 use Rattle.card.specs.Verdict.{verdictOn}
 use Rattle.deck.specs.declared.Totals.{Totals}
-use Rattle.deck.specs.Contents.{countOf, cardsOf}
+use Rattle.deck.specs.Contents.{entryAt, countOf, cardsOf}
 use Rattle.deck.specs.Tally.{Residuals, tallyOf}
 use Rattle.deck.specs.Check.{verdictsOf, judgedOf, tallied, answerOf, written, listAfter}
+use Rattle.deck.proofs.Cards.{KindsFrom, kinds-named}
+use Rattle.deck.proofs.Opened.{opened-to}
 use Rattle.deck.proofs.Tallied.{totals-add-up}
 use Rattle.deck.proofs.Sizes.{few-cards}
 
@@ -99,3 +102,44 @@ as-long deck list (refuse k) h = refl
 pub list-as-long : (deck list : List ℕ) → length (listAfter deck list) ≡ length list
 unfolding listAfter
 list-as-long deck list = as-long deck list (judgedOf deck (length list)) refl
+
+-- ---- what an answer tells of the cards
+
+-- the entries name their kinds
+pub all-kinds-named : (deck : List ℕ) (cards : List Card) → cardsOf deck ≡ pass cards → KindsFrom deck 0 cards
+all-kinds-named deck cards h = kinds-named deck (countOf deck) 0 (entryAt (countOf deck)) cards (opened-to deck cards h .1)
+
+-- an accepted deck's cards: tally and totals are theirs, and the list begins with their verdicts' numbers
+pub record Answered (deck list : List ℕ) (totals : Totals) (r : Residuals) : Type 0 where
+  pub cards : List Card
+  pub cards-are : cardsOf deck ≡ pass cards
+  pub tally : tallyOf (verdictsOf cards) ≡ (totals, r)
+  pub as-many : totals .solved + totals .refused + totals .rejected ≡ length cards
+  pub few : length cards ≤ 256
+  pub numbers : listAfter deck list ≡ map numberIn (verdictsOf cards) ++ drop (length (verdictsOf cards)) list
+
+pub answered : (deck list : List ℕ) (totals : Totals) (r : Residuals) → answerOf deck (length list) ≡ pass (totals, r) → Answered deck list totals r
+unfolding answerOf listAfter
+answered deck list totals r h =
+    let J = rows-passed (judgedOf deck (length list)) (λ verdicts. pass (tallyOf verdicts)) h in
+    let a = accepted-means deck (length list) (J .0) (J .1) in
+    let many = few-cards deck (a .cards) (a .cards-are) in
+    record {
+      cards = a .cards;
+      cards-are = a .cards-are;
+      tally = sym (ap tallyOf (a .verdicts-are)) ∙ pass-once (J .2);
+      as-many = totals-fit deck (length list) totals r h .add-up ∙ sym (many .0);
+      few = omega (arith, many .0, many .1);
+      numbers = ap (λ (m : Checked (List Said)). written m list) (J .1 ∙ ap pass (a .verdicts-are));
+    }
+
+-- a list with 256 places is never too short: a deck is refused for its contents alone
+never-short : (count room k : ℕ) (m : Checked (List Card)) → ((cards : List Card) → m ≡ pass cards → count ≤ room)
+    → tallied (onward m (λ cards. must (leb count room) 39 (pass (verdictsOf cards)))) ≡ refuse k → m ≡ refuse k
+unfolding onward must
+never-short count room k (pass cards) h e = let passed = rw (le-leb count room (h cards refl)) at e in absurd (true≢false cc)
+never-short count room k (refuse n) h e = cc
+
+pub refused-contents : (deck : List ℕ) (room k : ℕ) → 256 ≤ room → answerOf deck room ≡ refuse k → cardsOf deck ≡ refuse k
+unfolding answerOf judgedOf
+refused-contents deck room k h e = never-short (countOf deck) room k (cardsOf deck) (λ cards is. omega (arith, few-cards deck cards is .1)) e

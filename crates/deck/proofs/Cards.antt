@@ -1,6 +1,6 @@
--- Laws of the contents: what one more entry comes to, refused or a card in front of the rest; that each body lies inside the deck; and that
--- as many cards come out as there are entries.
-use mathlib.Core.Path.{_≡_, refl, sym, ap, _∙_}
+-- Laws of the contents: what one more entry comes to, refused or a card in front of the rest; that each body lies inside the deck; that as many
+-- cards come out as there are entries; and that the entries have their kinds.
+use mathlib.Core.Path.{_≡_, refl, sym, ap, subst, _∙_}
 use mathlib.Core.List.{List, [], _∷_}
 use Prim.Native.Nat.{ℕ, zero, suc, _+_, _≤_}
 use borrow.Author.Tests.{leb-true}
@@ -16,10 +16,10 @@ use Rattle.deck.specs.Contents.{kindAt, offsetAt, lengthAt, entryIn, car
 abbrev pub cardAt : List ℕ → Kind → (at : ℕ) → Card
 cardAt deck kind at = record { kind = kind; body = take (sizeOf kind) (drop at deck) }
 
--- an entry that passed has its body inside the deck
-pub entry-inside : (deck : List ℕ) (i at : ℕ) (kind : Kind) → entryIn deck i at ≡ pass kind → at + sizeOf kind ≤ length deck
+-- an entry that passed names its kind, and has its body inside the deck
+entry-means : (deck : List ℕ) (i at : ℕ) (kind : Kind) → entryIn deck i at ≡ pass kind → (kindAt deck i ≡ pass kind) × (at + sizeOf kind ≤ length deck)
 unfolding entryIn
-entry-inside deck i at kind h =
+entry-means deck i at kind h =
     let K = rows-passed (kindAt deck i) (λ kind. must (eqb (lengthAt deck i) (sizeOf kind)) 35 (must (eqb (offsetAt deck i) at) 36 (must (leb (at + sizeOf kind) (length deck)) 37 (pass kind)))) h in
     let k : Kind = K .0 in
     let inside = leb (at + sizeOf k) (length deck) in
@@ -27,7 +27,10 @@ entry-inside deck i at kind h =
     let offset-row = test-passed (eqb (offsetAt deck i) at) 36 (must inside 37 (pass k)) (length-row .1) in
     let end-row = test-passed inside 37 (pass k) (offset-row .1) in
     let is : k ≡ kind = pass-once (end-row .1) in
-    rw is at (leb-true (at + sizeOf k) (length deck) (end-row .0))
+    (K .1 ∙ ap pass is, rw is at (leb-true (at + sizeOf k) (length deck) (end-row .0)))
+
+pub entry-inside : (deck : List ℕ) (i at : ℕ) (kind : Kind) → entryIn deck i at ≡ pass kind → at + sizeOf kind ≤ length deck
+entry-inside deck i at kind h = entry-means deck i at kind h .1
 
 module _ (deck : List ℕ) (left i at : ℕ) where
   -- a card in front of the rest
@@ -67,3 +70,14 @@ as-many deck zero i at cards h = ap length (no-more deck i at cards h)
 as-many deck (suc left) i at cards h =
     let m = one-more deck left i at cards h in
     ap length (m .cards-is) ∙ ap suc (as-many deck left (i + 1) (at + sizeOf (m .kind)) (m .rest) (m .others))
+
+-- the entries from i on name the kinds of these cards
+abbrev pub KindsFrom : List ℕ → (i : ℕ) → List Card → Type 0
+KindsFrom deck i [] = Unit
+KindsFrom deck i (c ∷ cards) = (kindAt deck i ≡ pass (c .kind)) × KindsFrom deck (i + 1) cards
+
+pub kinds-named : (deck : List ℕ) (left i at : ℕ) (cards : List Card) → cardsFrom deck left i at ≡ pass cards → KindsFrom deck i cards
+kinds-named deck zero i at cards h = subst (KindsFrom deck i) (sym (no-more deck i at cards h)) tt
+kinds-named deck (suc left) i at cards h =
+    let m = one-more deck left i at cards h in
+    subst (KindsFrom deck i) (sym (m .cards-is)) (entry-means deck i at (m .kind) (m .entry) .0, kinds-named deck left (i + 1) (at + sizeOf (m .kind)) (m .rest) (m .others))

@@ -57,6 +57,11 @@ opened deck count h =
       passes = subst Passes (sym (fourth .1)) tt;
     })
 
+-- a deck that comes to cards is opened, and these are the cards from its first entry on
+pub opened-to : (deck : List ℕ) (cards : List Card) → cardsOf deck ≡ pass cards → Opened deck (countOf deck) × (cardsFrom deck (countOf deck) 0 (entryAt (countOf deck)) ≡ pass cards)
+unfolding onward
+opened-to deck cards h = let o = opened deck (countOf deck) (rw h refl) in (o, sym (o .cards-are) ∙ h)
+
 module _ (deck : List ℕ) (count : ℕ) (o : Opened deck count) (list : List ℕ) where
   too-short : length list < count → judgedOf deck (length list) ≡ refuse 39
   unfolding must onward judgedOf

@@ -17,7 +17,7 @@ use Rattle.card.specs.Fields.{Card, sizeOf}
 use Rattle.card.proofs.Sizes.{size-most}
 use Rattle.deck.specs.Contents.{entryAt, versionOf, countOf, entryIn, cardsFrom, cardsOf, largestDeck, readOfADeck}
 use Rattle.deck.proofs.Cards.{cardAt, one-more, as-many}
-use Rattle.deck.proofs.Opened.{opened}
+use Rattle.deck.proofs.Opened.{opened-to}
 
 -- ---- the largest deck
 
@@ -31,17 +31,15 @@ ends-by deck (suc left) i at cards h =
 
 -- an accepted deck has as many cards as it counts, at most 256
 pub few-cards : (deck : List ℕ) (cards : List Card) → cardsOf deck ≡ pass cards → (length cards ≡ countOf deck) × (countOf deck ≤ 256)
-unfolding onward
 few-cards deck cards h =
-    let o = opened deck (countOf deck) (rw h refl) in
-    (as-many deck (countOf deck) 0 (entryAt (countOf deck)) cards (sym (o .cards-are) ∙ h), o .most)
+    let o = opened-to deck cards h in
+    (as-many deck (countOf deck) 0 (entryAt (countOf deck)) cards (o .1), o .0 .most)
 
 -- and no more bytes than 256 of the largest cards
 pub largest : (deck : List ℕ) (cards : List Card) → cardsOf deck ≡ pass cards → length deck ≤ largestDeck
-unfolding onward
 largest deck cards h =
-    let o = opened deck (countOf deck) (rw h refl) in
-    omega (arith, ends-by deck (countOf deck) 0 (entryAt (countOf deck)) cards (sym (o .cards-are) ∙ h), o .most)
+    let o = opened-to deck cards h in
+    omega (arith, ends-by deck (countOf deck) 0 (entryAt (countOf deck)) cards (o .1), o .0 .most)
 
 -- ---- what stands behind
 

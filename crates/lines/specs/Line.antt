@@ -29,11 +29,14 @@ abbrev pub rootLine : root.Said → List ℕ
 rootLine (root.root x) = joined (text "root" ∷ number x ∷ text "\n" ∷ [])
 rootLine (root.refused k) = joined (text "refused" ∷ count k ∷ text "\n" ∷ [])
 
+abbrev pub refusal : (k n : ℕ) → List ℕ
+refusal k n = joined (text "refused" ∷ count k ∷ count n ∷ [])
+
 -- Lines 3: `solved COUNT X RX RY RZ VX VY VZ`, `refused NUMBER COUNT` or `refused NUMBER COUNT LO HI`
 abbrev pub outcomeLine : conic.Said → List ℕ
 outcomeLine (conic.solved x n state) = joined (text "solved" ∷ count n ∷ number x ∷ vector (state .r) ∷ vector (state .v) ∷ text "\n" ∷ [])
-outcomeLine (conic.refused k n) = joined (text "refused" ∷ count k ∷ count n ∷ text "\n" ∷ [])
-outcomeLine (conic.refusedWithBracket k n lo hi) = joined (text "refused" ∷ count k ∷ count n ∷ number lo ∷ number hi ∷ text "\n" ∷ [])
+outcomeLine (conic.refused k n) = joined (refusal k n ∷ text "\n" ∷ [])
+outcomeLine (conic.refusedWithBracket k n lo hi) = joined (refusal k n ∷ number lo ∷ number hi ∷ text "\n" ∷ [])
 
 -- an angle problem has its angle where a problem has its time
 abbrev pub turned : Problem → conic.Said

@@ -27,6 +27,10 @@ blockRecords = 64
 abbrev pub blockBytes : Question → ℕ
 blockBytes asked = blockRecords * widthOf asked
 
+-- the most bytes that a block has
+abbrev pub mostBlock : ℕ
+mostBlock = blockRecords * 68
+
 abbrev pub blockOf : Question → List ℕ → List ℕ
 blockOf asked bytes = take (blockBytes asked) bytes
 

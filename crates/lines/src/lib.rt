@@ -7,7 +7,7 @@ use conic::Problem;
 use conic::Vector;
 use root::Answer;
 ghost use mathlib.Core.Path.{_≡_};
-ghost use Prim.Native.Nat.{_≤_};
+ghost use Prim.Native.Nat.{_≤_, min};
 ghost use lib.ListN.{length};
 ghost use Rattle.text.specs.Text.{Put, handedIn};
 ghost use Rattle.root.specs.Said as root;
@@ -52,14 +52,19 @@ pub fn lines(asked: Question, s: &[u8], out: &mut [u8]) -> usize
     ensures { λ r. ⌜ r ≡ length (linesOf asked (blockOf asked (now (s .entry)))) ⌝ }
     ensures { λ r. ⌜ now (out .exit) ≡ handedIn (linesOf asked (blockOf asked (now (s .entry)))) (now (out .entry)) ⌝ }
 {
-    let mut size = block(asked);
-    if s.len() < size {
-        size = s.len();
-    }
+    let size = first(asked, s);
     if out.len() < ROOM {
         return in_little_room(asked, &s[..size], out);
     }
     write(asked, &s[..size], out)
+}
+
+// The bytes of s that are answered: a block, or as many as there are.
+fn first(asked: Question, s: &[u8]) -> usize
+    ensures { λ r. ⌜ r ≡ min (blockBytes asked) (length (now (s .entry))) ⌝ }
+{
+    let size = block(asked);
+    if s.len() < size { s.len() } else { size }
 }
 
 // Whether the lines fit is only known once they are made.
@@ -141,20 +146,24 @@ fn outcome_line(outcome: Outcome, out: &mut [u8], at: usize) -> usize
             text::put(out, end, b"\n")
         }
         Outcome::Refused(why, count) => {
-            let mut end = text::put(out, at, b"refused");
-            end = text::count(out, end, why.number());
-            end = text::count(out, end, count);
+            let end = refusal(why.number(), count, out, at);
             text::put(out, end, b"\n")
         }
         Outcome::RefusedWithBracket(why, count, lo, hi) => {
-            let mut end = text::put(out, at, b"refused");
-            end = text::count(out, end, why.number());
-            end = text::count(out, end, count);
+            let mut end = refusal(why.number(), count, out, at);
             end = text::number(out, end, lo);
             end = text::number(out, end, hi);
             text::put(out, end, b"\n")
         }
     }
+}
+
+fn refusal(number: u32, count: u32, out: &mut [u8], at: usize) -> usize
+    ensures { λ r. ⌜ Put (now (out .entry)) at (line.refusal number count) (now (out .exit)) r ⌝ }
+{
+    let mut end = text::put(out, at, b"refused");
+    end = text::count(out, end, number);
+    text::count(out, end, count)
 }
 
 fn vector(v: Vector, out: &mut [u8], at: usize) -> usize

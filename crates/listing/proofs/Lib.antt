@@ -1,1 +1,3 @@
 pub mod Longest
+pub mod Showing
+pub mod Fixed

@@ -8,8 +8,9 @@ use native.Mathlib.Omega.{arith}
 use borrow.Author.Tests.{ltb-true, ltb-false}
 use lib.Dec.{ltb}
 use lib.Ieee.{Float}
-use lib.ListN.{length, length-append, length-map}
-use Rattle.text.specs.Text.{text, joined, decimal, count}
+use lib.ListN.{length, take, length-append, length-map}
+use Rattle.text.specs.Text.{text, joined, decimal, count, handedIn}
+use Rattle.text.proofs.Puts.{found}
 use Rattle.text.proofs.Length.{length-under, length-self, length-number, length-count}
 use Rattle.rows.specs.Rows.{Checked, pass, refuse}
 use Rattle.card.specs.declared.Kind.{Kind}
@@ -120,3 +121,7 @@ longest deck = go (cardsOf deck) refl
     go : (m : Checked (List Card)) → cardsOf deck ≡ m → length (linesFor m) ≤ longestListing
     go (pass cards) e = accepted-most cards (omega (arith, few-cards deck cards e))
     go (refuse k) e = simp length-append (omega (arith, length-count k))
+
+-- so a page of that many bytes has the listing in front, once it is handed over
+pub in-page : (deck page : List ℕ) {after : List ℕ} {end : ℕ} → length page ≡ longestListing → end ≡ length (listingOf deck) → after ≡ handedIn (listingOf deck) page → (end ≤ length after) × (take end after ≡ listingOf deck)
+in-page deck page room e is = found (listingOf deck) page (omega (arith, longest deck)) e is

@@ -1,6 +1,8 @@
 -- A deck's listing: RULES, The check program's listing. Definitions only.
 use Prim.Native.Nat.{ℕ, _+_}
-use mathlib.Core.List.{List, [], _∷_, _++_}
+use mathlib.Core.Path.{_≡_}
+use mathlib.Core.List.{List, [], _∷_, _++_, map}
+use lib.ListN.{length}
 use Rattle.text.specs.Text.{text, joined, count, number}
 use Rattle.rows.specs.Rows.{Checked, pass, refuse}
 use Rattle.card.specs.declared.Kind.{Kind}
@@ -31,6 +33,14 @@ cardLine place c = lineOf place (c .kind) (verdictNumber c)
 unfoldable pub cardLines : (place : ℕ) → List Card → List ℕ
 cardLines place [] = []
 cardLines place (c ∷ cards) = cardLine place c ++ cardLines (place + 1) cards
+
+-- an accepted deck's cards, counted, with their verdicts' numbers in the first places of a list
+pub record Judged (deck list : List ℕ) (count : ℕ) : Type 0 where
+  pub cards : List Card
+  pub cards-are : cardsOf deck ≡ pass cards
+  pub as-many : length cards ≡ count
+  pub behind : List ℕ
+  pub numbers : list ≡ map numberIn (verdictsOf cards) ++ behind
 
 -- 3: the three totals
 abbrev pub totalsLine : Totals → List ℕ

@@ -9,9 +9,12 @@ use deck::Answer;
 use deck::Residuals;
 use deck::Totals;
 ghost use mathlib.Core.Path.{_≡_};
-ghost use Prim.Native.Nat.{_≤_};
+ghost use mathlib.Core.List.{List};
 ghost use lib.ListN.{length};
+ghost use Rattle.rows.specs.Rows.{pass};
 ghost use Rattle.text.specs.Text.{Put, handedIn};
+ghost use Rattle.card.specs.Fields.{Card};
+ghost use Rattle.deck.specs.Contents.{cardsOf};
 ghost use Rattle.deck.specs.Said.{told};
 ghost use Rattle.listing.specs.Listing as listing;
 
@@ -57,7 +60,8 @@ fn refused(number: u32, page: &mut [u8]) -> usize
 
 // A line for each card of an accepted deck, which has no card without a kind.
 fn cards(deck: &[u8], verdicts: &[u32], count: u32, page: &mut [u8]) -> usize
-    requires { ⌜ count ≤ length (now verdicts) ⌝ }
+    requires { ⌜ listing.Judged (now deck) (now verdicts) count ⌝ }
+    ensures { λ r. ⌜ ((cards : List Card) → cardsOf (now (deck .entry)) ≡ pass cards → Put (now (page .entry)) 0 (listing.cardLines 1 cards) (now (page .exit)) r) ⌝ }
 {
     let mut i = 0u32;
     let mut end = 0;

@@ -5,15 +5,20 @@
 // that a block of lines is the definition's is proved where it is written.
 use lines::Question;
 ghost use mathlib.Core.Path.{_≡_};
-ghost use Rattle.lines.specs.Lines.{linesOf};
+ghost use Prim.Native.Nat.{_≤_};
+ghost use lib.ListN.{length};
+ghost use Rattle.lines.specs.Lines.{linesOf, mostBlock, longestText};
 
 // The most blocks that are read: more than can come.
 const BLOCKS: u64 = 0xffff_ffff_ffff_ffff;
 
+// The bytes of a block of the longest records.
+const SPACE: usize = 4352;
+
 // Answers standard input on standard output, until it ends or nothing more can be written.
 pub fn list(asked: Question) {
     let mut blocks = 0u64;
-    let mut space = [0u8; 4352];
+    let mut space = [0u8; SPACE];
     let mut page = [0u8; lines::ROOM];
     while blocks < BLOCKS {
         if !block(asked, &mut space, &mut page) {
@@ -23,12 +28,16 @@ pub fn list(asked: Question) {
     }
 }
 
-// Reads one block and writes its lines. Answers whether the input may go on.
-fn block(asked: Question, space: &mut [u8], page: &mut [u8]) -> bool {
+// Reads one block into space and writes its lines, which are made on the page. Answers whether the
+// input may go on.
+fn block(asked: Question, space: &mut [u8], page: &mut [u8]) -> bool
+    requires { ⌜ (mostBlock ≤ length (now space)) × (longestText ≤ length (now page)) ⌝ }
+{
     let size = lines::block(asked);
     let got = stdio::read(space, size);
     let end = lines::lines(asked, &space[..got], page);
-    write(asked, &space[..got], &page[..end]) & (got == size)
+    let taken = write(asked, &space[..got], &page[..end]);
+    taken & (got == size)
 }
 
 // Writes what is the lines of these records.

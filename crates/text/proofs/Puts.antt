@@ -39,12 +39,16 @@ clamped l at s = go (leb at (length l)) refl
         let past : length l ≤ at = omega (arith, leb-false at (length l) e) in
         sets-beyond l (min at (length l)) s (omega arith) ∙ sym (sets-beyond l at s past)
 
+-- a buffer stays as long as it was
+pub as-long : {before after piece : List ℕ} {at end : ℕ} → Put before at piece after end → length after ≡ length before
+unfolding putIn
+as-long {before} {piece = piece} {at = at} p = ap length (p .holds) ∙ length-sets before at piece
+
 -- two pieces one behind the other are one piece
 pub puts : {before middle after s t : List ℕ} {at next end : ℕ} → Put before at s middle next → Put middle next t after end → Put before at (s ++ t) after end
 unfolding putIn endIn
 puts {before} {middle} {after} {s} {t} {at} {next} {end} p q =
-    let as-long : length middle ≡ length before = ap length (p .holds) ∙ length-sets before at s in
-    let stop : end ≡ min (min (at + length s) (length before) + length t) (length before) = q .ends ∙ rw (as-long, p .ends) in
+    let stop : end ≡ min (min (at + length s) (length before) + length t) (length before) = q .ends ∙ rw (as-long p, p .ends) in
     let pieces : length (s ++ t) ≡ length s + length t = length-append s t in
     let whole : at + length s + length t ≡ at + length (s ++ t) = omega (arith, pieces) in
     let clamp : next ≡ min (at + length s) (length (sets before at s)) = p .ends ∙ ap (min (at + length s)) (sym (length-sets before at s)) in
@@ -58,10 +62,13 @@ puts {before} {middle} {after} {s} {t} {at} {next} {end} p q =
         ∙ sym (sets-append before at s t);
     }
 
+-- a piece known by another name
+pub renamed : {before after piece other : List ℕ} {at end : ℕ} → piece ≡ other → Put before at piece after end → Put before at other after end
+renamed {before} {after} {at = at} {end = end} e p = subst (λ (l : List ℕ). Put before at l after end) e p
+
 -- the last of several pieces
 pub last : {before after piece : List ℕ} {at end : ℕ} → Put before at piece after end → Put before at (joined (piece ∷ [])) after end
-unfolding putIn endIn
-last {before} {after} {piece} {at} {end} p = subst (λ (l : List ℕ). Put before at l after end) (sym (append-nil piece)) p
+last {piece = piece} p = renamed (sym (append-nil piece)) p
 
 -- no piece at all, at a place inside
 pub none : {l : List ℕ} {at : ℕ} → at ≤ length l → Put l at [] l at
@@ -71,17 +78,26 @@ none {l} {at} h = record { ends = sym (min-eq-left h) ∙ ap (λ (k : ℕ). min 
 -- a piece ends inside
 pub inside : {before after piece : List ℕ} {at end : ℕ} → Put before at piece after end → end ≤ length after
 unfolding putIn endIn
-inside {before} {after} {piece} {at} {end} p =
-    let as-long : length after ≡ length before = ap length (p .holds) ∙ length-sets before at piece in
-    rw (as-long, p .ends) (omega arith)
+inside p = rw (as-long p, p .ends) (omega arith)
 
--- a whole text for which there is room, written from the first byte on, is handed over
+-- a whole text for which there is room stands in front, once it is handed over
+in-room : (whole buffer : List ℕ) → length whole ≤ length buffer → handedIn whole buffer ≡ whole ++ drop (length whole) buffer
+in-room whole buffer h = ap (λ (b : Bool). cond b (whole ++ drop (length whole) buffer) buffer) (le-leb (length whole) (length buffer) h)
+
+-- and is written so from the first byte on
 pub room : (whole buffer : List ℕ) → length whole ≤ length buffer → sets buffer 0 whole ≡ handedIn whole buffer
 room whole buffer h =
     let at-front : 0 + length whole ≤ length buffer = omega arith in
     sets-eq whole buffer 0 at-front
     ∙ ap (λ (k : ℕ). whole ++ drop k buffer) (zero-add (length whole))
-    ∙ sym (ap (λ (b : Bool). cond b (whole ++ drop (length whole) buffer) buffer) (le-leb (length whole) (length buffer) h))
+    ∙ sym (in-room whole buffer h)
+
+-- and is found there again
+pub found : (whole buffer : List ℕ) {after : List ℕ} {end : ℕ} → length whole ≤ length buffer → end ≡ length whole → after ≡ handedIn whole buffer → (end ≤ length after) × (take end after ≡ whole)
+found whole buffer {after} {end} h e is =
+    let rest = drop (length whole) buffer in
+    let stands : after ≡ whole ++ rest = is ∙ in-room whole buffer h in
+    (rw (e, stands, length-append whole rest) (omega arith), rw (e, stands) (take-append-seam whole rest))
 
 -- a text written from the first byte on, into a page that has room for it: the page's front is the text
 pub front : {before after whole : List ℕ} {end : ℕ} → Put before 0 whole after end → length whole ≤ length before → (end ≡ length whole) × (take end after ≡ whole)
@@ -134,6 +150,22 @@ in-front digits left d h k =
     drop-cons (set digits (left - 1) d) (left - 1) 0 (rw (length-set digits (left - 1) d) inside)
     ∙ rw (getD-set-same digits (left - 1) d 0 inside, next, drop-set-lt left digits (left - 1) d (omega arith))
 
--- what is written is known by another name
+-- the same of the two equations
 pub same-piece : (buffer : List ℕ) (at : ℕ) {piece other after : List ℕ} {end : ℕ} → piece ≡ other → (end ≡ endIn buffer at piece) × (after ≡ putIn buffer at piece) → (end ≡ endIn buffer at other) × (after ≡ putIn buffer at other)
 same-piece buffer at e p = (p .0 ∙ ap (endIn buffer at) e, p .1 ∙ ap (putIn buffer at) e)
+
+-- a writer's two equations are one piece written
+pub wrote : {before after piece : List ℕ} {at end : ℕ} → (end ≡ endIn before at piece) × (after ≡ putIn before at piece) → Put before at piece after end
+wrote p = record { ends = p .0; holds = p .1 }
+
+-- a text that was handed over in a buffer with room for it stands at the buffer's front
+pub record InHand (whole after : List ℕ) (n : ℕ) : Type 0 where
+  pub within : n ≤ length after
+  pub long : n ≡ length (take n after)
+  pub is : take n after ≡ whole
+
+pub in-hand : (whole buffer : List ℕ) {after : List ℕ} {n : ℕ} → length whole ≤ length buffer → n ≡ length whole → after ≡ handedIn whole buffer → InHand whole after n
+unfolding putIn endIn
+in-hand whole buffer {after} {n} h e held =
+    let put : Put buffer 0 whole after n = record { ends = e ∙ sym (min-eq-left h) ∙ ap (λ (k : ℕ). min k (length buffer)) (sym (zero-add (length whole))); holds = held ∙ sym (room whole buffer h) } in
+    record { within = inside put; long = sym (length-take-le n after (inside put)); is = front put h .1 }

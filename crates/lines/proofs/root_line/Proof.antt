@@ -1,13 +1,22 @@
 -- `lines::root_line` meets its contract, in either case.
+use Rattle.text.proofs.Puts.{puts, last, wrote}
 use borrow.Author.Needs.{needs}
 use Rattle.lines.proofs.root_line.Statement.{statement}
 use Rattle.lines.proofs.root_line.Tie as tie
 
 returns : tie.Need-returns
-returns c = ?
+returns c =
+    rw (c .before .before .before .before .before .before .before .before .before .before .before .before .before .before .before .answer .given .1)
+    (puts (wrote (c .before .before .before .before .before .before .before .before .before .before .before .put .ensures))
+    (puts (wrote (c .before .before .before .before .before .before .before .number .ensures))
+    (last (wrote (c .before .before .put2 .ensures)))))
 
 returns-2 : tie.Need-returns-2
-returns-2 c = ?
+returns-2 c =
+    rw (c .before .before .before .before .before .before .before .before .before .before .before .before .before .before .before .before .answer2 .given .1, ← c .before .before .before .before .before .before .before .before .number2 .ensures)
+    (puts (wrote (c .before .before .before .before .before .before .before .before .before .before .before .before .put3 .ensures))
+    (puts (wrote (c .before .before .before .before .before .before .before .count .ensures))
+    (last (wrote (c .before .before .put4 .ensures)))))
 
 pub root-line-spec : {M : Type 1} → statement M
 root-line-spec =

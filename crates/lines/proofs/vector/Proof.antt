@@ -1,10 +1,14 @@
 -- `lines::vector` meets its contract: three numbers one behind the other.
+use Rattle.text.proofs.Puts.{puts, last, wrote}
 use borrow.Author.Needs.{needs}
 use Rattle.lines.proofs.vector.Statement.{statement}
 use Rattle.lines.proofs.vector.Tie as tie
 
 returns : tie.Need-returns
-returns c = ?
+returns c =
+    puts (wrote (c .before .before .before .before .before .before .before .before .before .before .number .ensures))
+    (puts (wrote (c .before .before .before .before .before .before .number2 .ensures))
+    (last (wrote (c .before .before .number3 .ensures))))
 
 pub vector-spec : {M : Type 1} → statement M
 vector-spec =

@@ -1,0 +1,129 @@
+-- Laws of the lines of records: the first record's line comes first; blocks of whole records have the lines of all of them; and how long a line, and the text of a block, can be.
+use mathlib.Core.Path.{_≡_, refl, sym, ap, _∙_}
+use mathlib.Core.Bool.{Bool, true, false}
+use mathlib.Core.List.{List, [], _∷_, _++_, append-assoc}
+use Prim.Native.Nat.{ℕ, zero, suc, _+_, _-_, _*_, _/_, _≤_, _<_, min}
+use native.Mathlib.Nat.{div-eq-sub-div, div-eq-of-lt, div-le-of-le-mul, zero-mul, suc-mul, mul-comm, le-trans, le-of-eq, min-eq-left}
+use native.Mathlib.Numerals.{add-one}
+use native.Mathlib.Omega.{arith}
+use borrow.Author.Tests.{leb-true, leb-false}
+use lib.Dec.{leb}
+use lib.ListN.{length, take, drop, length-append, length-take, length-drop}
+use lib.Seq.{take-all, take-append-le, drop-append-le}
+use Rattle.text.specs.Text.{handedIn}
+use Rattle.text.proofs.Puts.{InHand, in-hand}
+use Rattle.text.proofs.Length.{length-count, length-number}
+use Rattle.root.specs.Said as root
+use Rattle.root.specs.Root.{rootOf}
+use Rattle.conic.specs.declared.Vector.{Vector}
+use Rattle.conic.specs.Said as conic
+use Rattle.kepler.specs.Kepler.{keplerOf}
+use Rattle.card.specs.Fields.{numberAt, problemOf}
+use Rattle.lines.specs.declared.Question.{Question}
+use Rattle.lines.specs.declared.Question.the-variants as question
+use Rattle.lines.specs.Line.{widthOf, vector, refusal, rootLine, outcomeLine, turned, lineOf}
+use Rattle.lines.specs.Lines.{leftOver, linesFrom, linesOf, blockRecords, blockBytes, mostBlock, blockOf, longestLine, longestText}
+
+-- the bytes of a record
+pub width-least : (asked : Question) → 8 ≤ widthOf asked
+width-least question.Root = omega arith
+width-least question.Kepler = omega arith
+width-least question.Theta = omega arith
+
+pub width-most : (asked : Question) → widthOf asked ≤ 68
+width-most question.Root = omega arith
+width-most question.Kepler = omega arith
+width-most question.Theta = omega arith
+
+pub block-most : (asked : Question) → blockBytes asked ≤ mostBlock
+block-most asked = omega (arith, width-most asked)
+
+some : (asked : Question) → 0 < widthOf asked
+some asked = omega (arith, width-least asked)
+
+-- where a whole record stands, its line comes first; where none does, only what is left over
+pub first-line : (asked : Question) (bytes : List ℕ) → widthOf asked ≤ length bytes → linesOf asked bytes ≡ lineOf asked (take (widthOf asked) bytes) ++ linesOf asked (drop (widthOf asked) bytes)
+unfolding linesFrom
+first-line asked bytes h =
+    let w : ℕ = widthOf asked in
+    let fewer : length bytes / w ≡ suc (length (drop w bytes) / w) = div-eq-sub-div (some asked) h ∙ add-one ((length bytes - w) / w) ∙ ap (λ (k : ℕ). suc (k / w)) (sym (length-drop w bytes)) in
+    ap (λ (k : ℕ). linesFrom asked k bytes) fewer
+
+pub no-line : (asked : Question) (bytes : List ℕ) → length bytes < widthOf asked → linesOf asked bytes ≡ leftOver bytes
+unfolding linesFrom
+no-line asked bytes h = ap (λ (k : ℕ). linesFrom asked k bytes) (div-eq-of-lt h)
+
+not-none : {n : ℕ} → suc n ≡ 0 → ⊥
+not-none e = omega arith
+
+empty : (l : List ℕ) → length l ≡ 0 → l ≡ []
+empty [] e = refl
+empty (b ∷ l) e = absurd (not-none e)
+
+-- blocks of whole records: their lines are the lines of all of them
+pub blocks-join : (asked : Question) (n : ℕ) (block rest : List ℕ) → length block ≡ n * widthOf asked → linesOf asked (block ++ rest) ≡ linesOf asked block ++ linesOf asked rest
+blocks-join asked zero block rest e =
+    let none : block ≡ [] = empty block (e ∙ zero-mul (widthOf asked)) in
+    rw none (ap (λ (l : List ℕ). l ++ linesOf asked rest) (sym (no-line asked [] (some asked))))
+blocks-join asked (suc n) block rest e =
+    let w : ℕ = widthOf asked in
+    let all : length block ≡ n * w + w = e ∙ suc-mul n w in
+    let inside : w ≤ length block = omega (arith, all) in
+    let longer : w ≤ length (block ++ rest) = simp length-append (omega (arith, inside)) in
+    let fewer : length (drop w block) ≡ n * w = rw (length-drop w block) (omega (arith, all)) in
+    first-line asked (block ++ rest) longer
+    ∙ ap (λ (l : List ℕ). lineOf asked l ++ linesOf asked (drop w (block ++ rest))) (take-append-le w block rest inside)
+    ∙ ap (λ (l : List ℕ). lineOf asked (take w block) ++ linesOf asked l) (drop-append-le w block rest inside)
+    ∙ ap (λ (l : List ℕ). lineOf asked (take w block) ++ l) (blocks-join asked n (drop w block) rest fewer)
+    ∙ sym (append-assoc (lineOf asked (take w block)) (linesOf asked (drop w block)) (linesOf asked rest))
+    ∙ ap (λ (l : List ℕ). l ++ linesOf asked rest) (sym (first-line asked block inside))
+
+-- as many bytes as a block has, or as there are, are the block
+pub first-block : (b : ℕ) (bytes : List ℕ) {n : ℕ} → n ≡ min b (length bytes) → take n bytes ≡ take b bytes
+first-block b bytes e = ap (λ (k : ℕ). take k bytes) e ∙ go (leb b (length bytes)) refl
+  where
+    go : (t : Bool) → leb b (length bytes) ≡ t → take (min b (length bytes)) bytes ≡ take b bytes
+    go true f = ap (λ (k : ℕ). take k bytes) (min-eq-left (leb-true b (length bytes) f))
+    go false f =
+        let all : length bytes ≤ b = omega (arith, leb-false b (length bytes) f) in
+        take-all (min b (length bytes)) bytes (omega arith) ∙ sym (take-all b bytes all)
+
+-- the longest line
+root-most : (s : root.Said) → length (rootLine s) ≤ longestLine
+root-most (root.root x) = simp (length-append, length-number x) (omega arith)
+root-most (root.refused k) = simp length-append (omega (arith, length-count k))
+
+outcome-most : (s : conic.Said) → length (outcomeLine s) ≤ longestLine
+outcome-most (conic.solved x n state) = simp (length-append, length-number x, length-number (state .r .x), length-number (state .r .y), length-number (state .r .z), length-number (state .v .x), length-number (state .v .y), length-number (state .v .z)) (omega (arith, length-count n))
+outcome-most (conic.refused k n) = simp length-append (omega (arith, length-count k, length-count n))
+outcome-most (conic.refusedWithBracket k n lo hi) = simp (length-append, length-number lo, length-number hi) (omega (arith, length-count k, length-count n))
+
+pub line-most : (asked : Question) (bytes : List ℕ) → length (lineOf asked bytes) ≤ longestLine
+unfolding lineOf
+line-most question.Root bytes = root-most (rootOf (numberAt bytes 0))
+line-most question.Kepler bytes = outcome-most (keplerOf (problemOf bytes))
+line-most question.Theta bytes = outcome-most (turned (problemOf bytes))
+
+-- the longest text of a block
+left-most : (bytes : List ℕ) → length (leftOver bytes) ≤ 6
+left-most [] = omega arith
+left-most (b ∷ bytes) = omega arith
+
+from-most : (asked : Question) (n : ℕ) (bytes : List ℕ) → length (linesFrom asked n bytes) ≤ n * longestLine + 6
+unfolding linesFrom
+from-most asked zero bytes = omega (arith, left-most bytes)
+from-most asked (suc n) bytes =
+    let w : ℕ = widthOf asked in
+    simp length-append (omega (arith, line-most asked (take w bytes), from-most asked n (drop w bytes)))
+
+pub text-most : (asked : Question) (bytes : List ℕ) → length bytes ≤ blockBytes asked → length (linesOf asked bytes) ≤ longestText
+text-most asked bytes h =
+    let few : length bytes / widthOf asked ≤ blockRecords = div-le-of-le-mul (widthOf asked) (le-trans h (le-of-eq (mul-comm blockRecords (widthOf asked)))) in
+    omega (arith, few, from-most asked (length bytes / widthOf asked) bytes)
+
+-- the lines of records that are no more than a block, handed over in a buffer with room for the longest text
+pub lines-in-hand : (asked : Question) (bytes buffer : List ℕ) {after : List ℕ} {n : ℕ} → length bytes ≤ blockBytes asked → longestText ≤ length buffer
+    → n ≡ length (linesOf asked (blockOf asked bytes)) → after ≡ handedIn (linesOf asked (blockOf asked bytes)) buffer → InHand (linesOf asked bytes) after n
+lines-in-hand asked bytes buffer h room e held =
+    let all : linesOf asked (blockOf asked bytes) ≡ linesOf asked bytes = ap (linesOf asked) (take-all (blockBytes asked) bytes h) in
+    in-hand (linesOf asked bytes) buffer (le-trans (text-most asked bytes h) room) (e ∙ ap length all) (held ∙ ap (λ (l : List ℕ). handedIn l buffer) all)

@@ -1,0 +1,16 @@
+-- `lines::refusal` meets its contract.
+use Rattle.text.proofs.Puts.{puts, last, wrote}
+use borrow.Author.Needs.{needs}
+use Rattle.lines.proofs.refusal.Statement.{statement}
+use Rattle.lines.proofs.refusal.Tie as tie
+
+returns : tie.Need-returns
+returns c =
+    puts (wrote (c .before .before .before .before .before .before .before .before .before .before .put .ensures))
+    (puts (wrote (c .before .before .before .before .before .before .count .ensures))
+    (last (wrote (c .before .before .count2 .ensures))))
+
+pub refusal-spec : {M : Type 1} → statement M
+refusal-spec =
+    tie.close
+    (tie.spec (λ c. search needs) (λ c κs. search needs) (λ c κs. search needs) (λ c κs. search needs) (λ c. search needs) returns)
