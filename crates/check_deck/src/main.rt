@@ -1,6 +1,8 @@
 // Checks a deck: reads it from standard input and writes its listing. What the listing is, `listing`
 // says.
 ghost use mathlib.Core.Path.{_≡_};
+ghost use Prim.Native.Nat.{_≤_};
+ghost use lib.ListN.{length};
 ghost use Rattle.io.specs.Counts.{Counts};
 ghost use Rattle.deck.specs.Contents.{readOfADeck};
 ghost use Rattle.listing.specs.Listing.{listingOf};
@@ -18,7 +20,7 @@ fn main() {
 
 // Reads as much of a deck as can change its listing.
 fn read(space: &mut [u8], most: usize) -> usize
-    requires { ⌜ most ≡ readOfADeck ⌝ }
+    requires { ⌜ (most ≡ readOfADeck) × (most ≤ length (now space)) ⌝ }
     ensures { λ r. ⌜ Counts r (now (space .exit)) ⌝ }
 {
     stdio::read(space, most)

@@ -11,7 +11,7 @@ use lib.Dec.{leb}
 use lib.ListN.{length, take, drop, length-append, length-take, length-drop}
 use lib.Seq.{take-all, take-append-le, drop-append-le}
 use Rattle.text.specs.Text.{handedIn}
-use Rattle.text.proofs.Puts.{InHand, in-hand}
+use Rattle.text.proofs.Puts.{InFront, found}
 use Rattle.text.proofs.Length.{length-count, length-number}
 use Rattle.root.specs.Said as root
 use Rattle.root.specs.Root.{rootOf}
@@ -122,8 +122,8 @@ text-most asked bytes h =
     omega (arith, few, from-most asked (length bytes / widthOf asked) bytes)
 
 -- the lines of records that are no more than a block, handed over in a buffer with room for the longest text
-pub lines-in-hand : (asked : Question) (bytes buffer : List ℕ) {after : List ℕ} {n : ℕ} → length bytes ≤ blockBytes asked → longestText ≤ length buffer
-    → n ≡ length (linesOf asked (blockOf asked bytes)) → after ≡ handedIn (linesOf asked (blockOf asked bytes)) buffer → InHand (linesOf asked bytes) after n
-lines-in-hand asked bytes buffer h room e held =
+pub lines-found : (asked : Question) (bytes buffer : List ℕ) {after : List ℕ} {n : ℕ} → length bytes ≤ blockBytes asked → longestText ≤ length buffer
+    → n ≡ length (linesOf asked (blockOf asked bytes)) → after ≡ handedIn (linesOf asked (blockOf asked bytes)) buffer → InFront (linesOf asked bytes) after n
+lines-found asked bytes buffer h room e held =
     let all : linesOf asked (blockOf asked bytes) ≡ linesOf asked bytes = ap (linesOf asked) (take-all (blockBytes asked) bytes h) in
-    in-hand (linesOf asked bytes) buffer (le-trans (text-most asked bytes h) room) (e ∙ ap length all) (held ∙ ap (λ (l : List ℕ). handedIn l buffer) all)
+    found (linesOf asked bytes) buffer (le-trans (text-most asked bytes h) room) (e ∙ ap length all) (held ∙ ap (λ (l : List ℕ). handedIn l buffer) all)

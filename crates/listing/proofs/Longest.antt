@@ -1,8 +1,8 @@
 -- How long a listing can be: at most 5,087 bytes. A card's line has at most 17 bytes and the digits of its place, two less where the card is
 -- accepted as solved and one less where it is accepted as refused. These pay for the totals' digits, and for mean and worst but for 44 bytes.
-use mathlib.Core.Path.{_≡_, refl}
+use mathlib.Core.Path.{_≡_, refl, ap}
 use mathlib.Core.Bool.{Bool, true, false}
-use mathlib.Core.List.{List, [], _∷_}
+use mathlib.Core.List.{List, [], _∷_, _++_}
 use Prim.Native.Nat.{ℕ, suc, _+_, _*_, _-_, _≤_, _<_}
 use native.Mathlib.Omega.{arith}
 use borrow.Author.Tests.{ltb-true, ltb-false}
@@ -10,7 +10,7 @@ use lib.Dec.{ltb}
 use lib.Ieee.{Float}
 use lib.ListN.{length, take, length-append, length-map}
 use Rattle.text.specs.Text.{text, joined, decimal, count, handedIn}
-use Rattle.text.proofs.Puts.{found}
+use Rattle.text.proofs.Puts.{InFront, found}
 use Rattle.text.proofs.Length.{length-under, length-self, length-number, length-count}
 use Rattle.rows.specs.Rows.{Checked, pass, refuse}
 use Rattle.card.specs.declared.Kind.{Kind}
@@ -21,11 +21,11 @@ use Rattle.card.specs.Verdict.{verdictOn}
 use Rattle.card.proofs.Rejected.{rejected-numbered}
 use Rattle.card.proofs.Accepted.{never-solved}
 use Rattle.deck.specs.declared.Totals.{Totals}
-use Rattle.deck.specs.Contents.{cardsOf}
+use Rattle.deck.specs.Contents.{cardsOf, readOfADeck}
 use Rattle.deck.specs.Tally.{nothing, counted, countedAll, Residuals, absent, known, residualsOf, totalsOf}
 use Rattle.deck.specs.Check.{verdictsOf}
 use Rattle.deck.proofs.Tallied.{totals-add-up, first-and-others, known-is}
-use Rattle.deck.proofs.Sizes.{few-cards}
+use Rattle.deck.proofs.Sizes.{few-cards, read-is-enough}
 use Rattle.listing.specs.Listing.{kindWord, cardLine, cardLines, totalsLine, residualLines, acceptedLines, linesFor, listingOf, longestListing}
 
 -- ---- the digits of the places
@@ -123,5 +123,10 @@ longest deck = go (cardsOf deck) refl
     go (refuse k) e = simp length-append (omega (arith, length-count k))
 
 -- so a page of that many bytes has the listing in front, once it is handed over
-pub in-page : (deck page : List ℕ) {after : List ℕ} {end : ℕ} → length page ≡ longestListing → end ≡ length (listingOf deck) → after ≡ handedIn (listingOf deck) page → (end ≤ length after) × (take end after ≡ listingOf deck)
+pub in-page : (deck page : List ℕ) {after : List ℕ} {end : ℕ} → length page ≡ longestListing → end ≡ length (listingOf deck) → after ≡ handedIn (listingOf deck) page → InFront (listingOf deck) after end
 in-page deck page room e is = found (listingOf deck) page (omega (arith, longest deck)) e is
+
+-- and what is read of a deck is enough for it
+pub listing-of-what-is-read : (front rest : List ℕ) → readOfADeck ≤ length front → listingOf (front ++ rest) ≡ listingOf front
+unfolding listingOf
+listing-of-what-is-read front rest h = ap linesFor (read-is-enough front rest h)

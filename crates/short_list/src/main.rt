@@ -19,17 +19,19 @@ fn check_in(deck: &[u8], room: usize)
 {
     let mut list = [97u32; 5];
     let number = refusal(deck::check(deck, &mut list[..room]));
-    stdio::text(b"room");
-    stdio::count(room as u32);
-    stdio::text(b" deck");
-    stdio::count(number);
-    stdio::text(b" list");
-    stdio::count(list[0]);
-    stdio::count(list[1]);
-    stdio::count(list[2]);
-    stdio::count(list[3]);
-    stdio::count(list[4]);
-    stdio::text(b"\n");
+    let mut page = [0u8; 128];
+    let mut end = text::put(&mut page, 0, b"room");
+    end = text::count(&mut page, end, room as u32);
+    end = text::put(&mut page, end, b" deck");
+    end = text::count(&mut page, end, number);
+    end = text::put(&mut page, end, b" list");
+    end = text::count(&mut page, end, list[0]);
+    end = text::count(&mut page, end, list[1]);
+    end = text::count(&mut page, end, list[2]);
+    end = text::count(&mut page, end, list[3]);
+    end = text::count(&mut page, end, list[4]);
+    end = text::put(&mut page, end, b"\n");
+    stdio::write(&page[..end]);
 }
 
 // The number of the refusal; 0 where the deck is accepted.

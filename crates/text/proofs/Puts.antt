@@ -92,12 +92,18 @@ room whole buffer h =
     ∙ ap (λ (k : ℕ). whole ++ drop k buffer) (zero-add (length whole))
     ∙ sym (in-room whole buffer h)
 
--- and is found there again
-pub found : (whole buffer : List ℕ) {after : List ℕ} {end : ℕ} → length whole ≤ length buffer → end ≡ length whole → after ≡ handedIn whole buffer → (end ≤ length after) × (take end after ≡ whole)
-found whole buffer {after} {end} h e is =
+-- and is found there again, at the front
+pub record InFront (whole after : List ℕ) (end : ℕ) : Type 0 where
+  pub within : end ≤ length after
+  pub long : end ≡ length (take end after)
+  pub is : take end after ≡ whole
+
+pub found : (whole buffer : List ℕ) {after : List ℕ} {end : ℕ} → length whole ≤ length buffer → end ≡ length whole → after ≡ handedIn whole buffer → InFront whole after end
+found whole buffer {after} {end} h e held =
     let rest = drop (length whole) buffer in
-    let stands : after ≡ whole ++ rest = is ∙ in-room whole buffer h in
-    (rw (e, stands, length-append whole rest) (omega arith), rw (e, stands) (take-append-seam whole rest))
+    let stands : after ≡ whole ++ rest = held ∙ in-room whole buffer h in
+    let there : end ≤ length after = rw (e, stands, length-append whole rest) (omega arith) in
+    record { within = there; long = sym (length-take-le end after there); is = rw (e, stands) (take-append-seam whole rest) }
 
 -- a text written from the first byte on, into a page that has room for it: the page's front is the text
 pub front : {before after whole : List ℕ} {end : ℕ} → Put before 0 whole after end → length whole ≤ length before → (end ≡ length whole) × (take end after ≡ whole)
@@ -157,15 +163,3 @@ same-piece buffer at e p = (p .0 ∙ ap (endIn buffer at) e, p .1 ∙ ap (putIn 
 -- a writer's two equations are one piece written
 pub wrote : {before after piece : List ℕ} {at end : ℕ} → (end ≡ endIn before at piece) × (after ≡ putIn before at piece) → Put before at piece after end
 wrote p = record { ends = p .0; holds = p .1 }
-
--- a text that was handed over in a buffer with room for it stands at the buffer's front
-pub record InHand (whole after : List ℕ) (n : ℕ) : Type 0 where
-  pub within : n ≤ length after
-  pub long : n ≡ length (take n after)
-  pub is : take n after ≡ whole
-
-pub in-hand : (whole buffer : List ℕ) {after : List ℕ} {n : ℕ} → length whole ≤ length buffer → n ≡ length whole → after ≡ handedIn whole buffer → InHand whole after n
-unfolding putIn endIn
-in-hand whole buffer {after} {n} h e held =
-    let put : Put buffer 0 whole after n = record { ends = e ∙ sym (min-eq-left h) ∙ ap (λ (k : ℕ). min k (length buffer)) (sym (zero-add (length whole))); holds = held ∙ sym (room whole buffer h) } in
-    record { within = inside put; long = sym (length-take-le n after (inside put)); is = front put h .1 }

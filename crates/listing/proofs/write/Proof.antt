@@ -34,7 +34,7 @@ judged a e = record { cards = a .cards; cards-are = a .cards-are; as-many = sym 
 
 -- the deck was accepted
 accepted : (c : tie.After-totals) → Answered (c .before .before .before .before .before .before .before .args .deck .now) (replicate 256 0) (c .totals .given .0 .0) (told (c .totals .given .0 .1 .0))
-accepted c = answered (c .before .before .before .before .before .before .before .args .deck .now) (replicate 256 0) (c .totals .given .0 .0) (told (c .totals .given .0 .1 .0)) (sym (c .before .before .before .check .ensures .0) ∙ ap said (c .totals .given .1))
+accepted c = answered _ _ _ _ (sym (c .before .before .before .check .ensures .0) ∙ ap said (c .totals .given .1))
 
 add-count : tie.Need-add-count
 add-count c = let a = accepted (c .before .before) in omega (arith, a .as-many, a .few)

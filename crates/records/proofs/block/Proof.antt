@@ -4,9 +4,9 @@ use Prim.Native.Nat.{ℕ, _≤_}
 use native.Mathlib.Omega.{arith}
 use borrow.Author.Needs.{needs}
 use lib.ListN.{length, take}
-use Rattle.text.proofs.Puts.{InHand}
+use Rattle.text.proofs.Puts.{InFront}
 use Rattle.lines.specs.Lines.{linesOf, blockBytes}
-use Rattle.lines.proofs.Records.{lines-in-hand}
+use Rattle.lines.proofs.Records.{lines-found}
 use Rattle.records.proofs.block.Statement.{statement}
 use Rattle.records.proofs.block.Tie as tie
 
@@ -14,12 +14,12 @@ use Rattle.records.proofs.block.Tie as tie
 abbrev came : (c : tie.After-lines) → List ℕ
 came c = let r = c .before .before .before .before .before .read in take (r .result) (r .last .0)
 
-made : (c : tie.After-lines) → InHand (linesOf (c .before .before .before .before .before .before .before .before .before .before .args .asked) (came c)) (c .lines .last .1 .1 .0) (c .lines .result)
+made : (c : tie.After-lines) → InFront (linesOf (c .before .before .before .before .before .before .before .before .before .before .args .asked) (came c)) (c .lines .last .1 .1 .0) (c .lines .result)
 made c =
     let start = c .before .before .before .before .before .before .before .before .before .before in
     let r = c .before .before .before .before .before .read in
     let few : length (came c) ≤ blockBytes (start .args .asked) = omega (arith, r .ensures .0 .1, r .ensures .1, c .before .before .before .before .before .before .before .block .ensures) in
-    lines-in-hand (start .args .asked) (came c) (start .args .page .now) few (start .pre .1) (c .lines .ensures .0) (c .lines .ensures .1)
+    lines-found (start .args .asked) (came c) (start .args .page .now) few (start .pre .1) (c .lines .ensures .0) (c .lines .ensures .1)
 
 slice-reshare-prefix-write-2 : tie.Need-slice-reshare-prefix-write-2
 slice-reshare-prefix-write-2 c = made (c .before .before .before) .within
