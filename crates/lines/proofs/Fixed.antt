@@ -2,15 +2,10 @@
 use mathlib.Core.Path.{refl, ap}
 use Rattle.coincidence.specs.Coincidence.{Fixes}
 use Rattle.coincidence.proofs.Laws.{one-result}
-use Rattle.lines.proofs.width.Reads as width
-use Rattle.lines.proofs.width.Kinds as width-kinds
 use Rattle.lines.proofs.block.Reads as block
 use Rattle.lines.proofs.block.Kinds as block-kinds
 use Rattle.lines.proofs.lines.Reads as lines
 use Rattle.lines.proofs.lines.Kinds as lines-kinds
-
-pub width-fixes : Fixes 0 width-kinds.ps width-kinds.r width.Learnt
-width-fixes κs a x y v w p q = (one-result p q, refl)
 
 pub block-fixes : Fixes 0 block-kinds.ps block-kinds.r block.Learnt
 block-fixes κs a x y v w p q = (one-result p q, refl)

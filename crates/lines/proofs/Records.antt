@@ -1,4 +1,4 @@
--- Laws of the lines of records: the first record's line comes first; blocks of whole records have the lines of all of them; and how long a line, and the text of a block, can be.
+-- Laws of the lines of records: the first record's line comes first; blocks of whole records have the lines of all of them; and how long the text of a block can be.
 use mathlib.Core.Path.{_≡_, refl, sym, ap, _∙_}
 use mathlib.Core.Bool.{Bool, true, false}
 use mathlib.Core.List.{List, [], _∷_, _++_, append-assoc}
@@ -12,29 +12,12 @@ use lib.ListN.{length, take, drop, length-append, length-take, length-drop}
 use lib.Seq.{take-all, take-append-le, drop-append-le}
 use Rattle.text.specs.Text.{handedIn}
 use Rattle.text.proofs.Puts.{InFront, found}
-use Rattle.text.proofs.Length.{length-count, length-number}
-use Rattle.root.specs.Said as root
-use Rattle.root.specs.Root.{rootOf}
-use Rattle.conic.specs.declared.Vector.{Vector}
-use Rattle.conic.specs.Said as conic
-use Rattle.kepler.specs.Kepler.{keplerOf}
-use Rattle.card.specs.Fields.{numberAt, problemOf}
-use Rattle.lines.specs.declared.Question.{Question}
-use Rattle.lines.specs.declared.Question.the-variants as question
-use Rattle.lines.specs.Line.{widthOf, vector, refusal, rootLine, outcomeLine, turned, lineOf}
-use Rattle.lines.specs.Lines.{leftOver, linesFrom, linesOf, blockRecords, blockBytes, mostBlock, blockOf, longestLine, longestText}
+use Rattle.line.specs.declared.Question.{Question}
+use Rattle.line.specs.Line.{widthOf, lineOf, longestLine}
+use Rattle.line.proofs.Widths.{width-least, width-most, line-most}
+use Rattle.lines.specs.Lines.{leftOver, linesFrom, linesOf, blockRecords, blockBytes, mostBlock, blockOf, longestText}
 
--- the bytes of a record
-pub width-least : (asked : Question) → 8 ≤ widthOf asked
-width-least question.Root = omega arith
-width-least question.Kepler = omega arith
-width-least question.Theta = omega arith
-
-pub width-most : (asked : Question) → widthOf asked ≤ 68
-width-most question.Root = omega arith
-width-most question.Kepler = omega arith
-width-most question.Theta = omega arith
-
+-- the most bytes that a block has
 pub block-most : (asked : Question) → blockBytes asked ≤ mostBlock
 block-most asked = omega (arith, width-most asked)
 
@@ -87,22 +70,6 @@ first-block b bytes e = ap (λ (k : ℕ). take k bytes) e ∙ go (leb b (length 
     go false f =
         let all : length bytes ≤ b = omega (arith, leb-false b (length bytes) f) in
         take-all (min b (length bytes)) bytes (omega arith) ∙ sym (take-all b bytes all)
-
--- the longest line
-root-most : (s : root.Said) → length (rootLine s) ≤ longestLine
-root-most (root.root x) = simp (length-append, length-number x) (omega arith)
-root-most (root.refused k) = simp length-append (omega (arith, length-count k))
-
-outcome-most : (s : conic.Said) → length (outcomeLine s) ≤ longestLine
-outcome-most (conic.solved x n state) = simp (length-append, length-number x, length-number (state .r .x), length-number (state .r .y), length-number (state .r .z), length-number (state .v .x), length-number (state .v .y), length-number (state .v .z)) (omega (arith, length-count n))
-outcome-most (conic.refused k n) = simp length-append (omega (arith, length-count k, length-count n))
-outcome-most (conic.refusedWithBracket k n lo hi) = simp (length-append, length-number lo, length-number hi) (omega (arith, length-count k, length-count n))
-
-pub line-most : (asked : Question) (bytes : List ℕ) → length (lineOf asked bytes) ≤ longestLine
-unfolding lineOf
-line-most question.Root bytes = root-most (rootOf (numberAt bytes 0))
-line-most question.Kepler bytes = outcome-most (keplerOf (problemOf bytes))
-line-most question.Theta bytes = outcome-most (turned (problemOf bytes))
 
 -- the longest text of a block
 left-most : (bytes : List ℕ) → length (leftOver bytes) ≤ 6

@@ -3,8 +3,8 @@ use Prim.Native.Nat.{ℕ, zero, suc, _+_, _*_, _/_}
 use mathlib.Core.List.{List, [], _∷_, _++_}
 use lib.ListN.{length, take, drop}
 use Rattle.text.specs.Text.{text}
-use Rattle.lines.specs.declared.Question.{Question}
-use Rattle.lines.specs.Line.{widthOf, lineOf}
+use Rattle.line.specs.declared.Question.{Question}
+use Rattle.line.specs.Line.{widthOf, lineOf, longestLine}
 
 -- Lines 4: what is left behind the last whole record: nothing, or a record that is cut off
 abbrev pub leftOver : List ℕ → List ℕ
@@ -34,9 +34,6 @@ mostBlock = blockRecords * 68
 abbrev pub blockOf : Question → List ℕ → List ℕ
 blockOf asked bytes = take (blockBytes asked) bytes
 
--- the bytes of the longest line, and of the longest text that a block comes to
-abbrev pub longestLine : ℕ
-longestLine = 137
-
+-- the bytes of the longest text that a block comes to
 abbrev pub longestText : ℕ
 longestText = blockRecords * longestLine + 6

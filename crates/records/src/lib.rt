@@ -3,7 +3,7 @@
 //
 // Every function here is proved safe and to end. What is read and written is no part of a contract;
 // that a block of lines is the definition's is proved where it is written.
-use lines::Question;
+use line::Question;
 ghost use mathlib.Core.Path.{_≡_};
 ghost use Prim.Native.Nat.{_≤_};
 ghost use lib.ListN.{length};

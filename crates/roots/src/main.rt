@@ -1,6 +1,6 @@
 // Takes roots: reads binary64 words, eight bytes each, and writes a line for each. What the lines
 // are, `lines` says.
-use lines::Question;
+use line::Question;
 
 fn main() {
     records::list(Question::Root);

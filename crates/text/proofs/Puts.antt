@@ -160,6 +160,9 @@ in-front digits left d h k =
 pub same-piece : (buffer : List ℕ) (at : ℕ) {piece other after : List ℕ} {end : ℕ} → piece ≡ other → (end ≡ endIn buffer at piece) × (after ≡ putIn buffer at piece) → (end ≡ endIn buffer at other) × (after ≡ putIn buffer at other)
 same-piece buffer at e p = (p .0 ∙ ap (endIn buffer at) e, p .1 ∙ ap (putIn buffer at) e)
 
--- a writer's two equations are one piece written
+-- a writer's two equations are one piece written, and a piece written is two equations
 pub wrote : {before after piece : List ℕ} {at end : ℕ} → (end ≡ endIn before at piece) × (after ≡ putIn before at piece) → Put before at piece after end
 wrote p = record { ends = p .0; holds = p .1 }
+
+pub both : {before after piece : List ℕ} {at end : ℕ} → Put before at piece after end → (end ≡ endIn before at piece) × (after ≡ putIn before at piece)
+both p = (p .ends, p .holds)

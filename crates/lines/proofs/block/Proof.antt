@@ -1,7 +1,7 @@
 -- `lines::block` meets its contract.
 use native.Mathlib.Omega.{arith}
 use borrow.Author.Needs.{needs}
-use Rattle.lines.proofs.Records.{width-most}
+use Rattle.line.proofs.Widths.{width-most}
 use Rattle.lines.proofs.block.Statement.{statement}
 use Rattle.lines.proofs.block.Tie as tie
 

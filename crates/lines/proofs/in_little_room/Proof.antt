@@ -7,7 +7,7 @@ use lib.ListN.{length, take, replicate, length-replicate}
 use lib.Seq.{length-take-le}
 use Rattle.text.specs.Text.{Put, handedIn}
 use Rattle.text.proofs.Puts.{inside, front}
-use Rattle.lines.specs.declared.Question.{Question}
+use Rattle.line.specs.declared.Question.{Question}
 use Rattle.lines.specs.Lines.{linesOf, blockBytes}
 use Rattle.lines.proofs.Records.{text-most}
 use borrow.Author.Needs.{needs}

@@ -8,7 +8,7 @@ use lib.ListN.{length, take, length-take}
 use lib.Seq.{length-take-le}
 use Rattle.text.specs.Text.{handedIn}
 use Rattle.text.proofs.Puts.{renamed, handed}
-use Rattle.lines.specs.declared.Question.{Question}
+use Rattle.line.specs.declared.Question.{Question}
 use Rattle.lines.specs.Lines.{linesOf, blockBytes, blockOf, longestText}
 use Rattle.lines.proofs.Records.{first-block, text-most}
 use borrow.Author.Needs.{needs}

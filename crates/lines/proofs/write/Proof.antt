@@ -8,10 +8,11 @@ use lib.ListN.{length, take, drop, length-drop, drop-of-length-le}
 use lib.Seq.{drop-drop}
 use Rattle.text.specs.Text.{text, Put}
 use Rattle.text.proofs.Puts.{puts, renamed, none, as-long, wrote}
-use Rattle.lines.specs.declared.Question.{Question}
-use Rattle.lines.specs.Line.{widthOf, lineOf}
+use Rattle.line.specs.declared.Question.{Question}
+use Rattle.line.specs.Line.{widthOf, lineOf}
 use Rattle.lines.specs.Lines.{leftOver, linesOf}
-use Rattle.lines.proofs.Records.{width-least, first-line, no-line}
+use Rattle.line.proofs.Widths.{width-least}
+use Rattle.lines.proofs.Records.{first-line, no-line}
 use Rattle.lines.proofs.write.Statement.{statement}
 use Rattle.lines.proofs.write.Tie as tie
 
@@ -101,7 +102,7 @@ loop-again c =
     let size : ℕ = c .before .before .before .before .before .before .before .width .result in
     let long : at + size - at ≡ size = omega arith in
     let named = ap (λ (k : ℕ). lineOf (c .before .before .before .before .before .before .before .before .before .before .args .asked) (take k (drop at (c .before .before .before .before .before .before .before .before .before .before .args .s .now)))) long in
-    turn (c .before .before .before .before .before .before .loop .inv) (c .before .before .before .before .before .before .before .width .ensures) (omega arith) (renamed named (c .before .before .line .ensures))
+    turn (c .before .before .before .before .before .before .loop .inv) (c .before .before .before .before .before .before .before .width .ensures) (omega arith) (renamed named (wrote (c .before .before .line .ensures)))
 
 slice-aggregate-put : tie.Need-slice-aggregate-put Inv-loop μ-loop
 slice-aggregate-put c = refl

@@ -1,8 +1,8 @@
--- `lines::vector` meets its contract: three numbers one behind the other.
+-- `line::vector` meets its contract: three numbers one behind the other.
 use Rattle.text.proofs.Puts.{puts, last, wrote}
 use borrow.Author.Needs.{needs}
-use Rattle.lines.proofs.vector.Statement.{statement}
-use Rattle.lines.proofs.vector.Tie as tie
+use Rattle.line.proofs.vector.Statement.{statement}
+use Rattle.line.proofs.vector.Tie as tie
 
 returns : tie.Need-returns
 returns c =

@@ -1,8 +1,8 @@
--- `lines::outcome_line` meets its contract.
+-- `line::outcome_line` meets its contract.
 use Rattle.text.proofs.Puts.{puts, last, wrote}
 use borrow.Author.Needs.{needs}
-use Rattle.lines.proofs.outcome_line.Statement.{statement}
-use Rattle.lines.proofs.outcome_line.Tie as tie
+use Rattle.line.proofs.outcome_line.Statement.{statement}
+use Rattle.line.proofs.outcome_line.Tie as tie
 
 returns : tie.Need-returns
 returns c =

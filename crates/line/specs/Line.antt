@@ -12,8 +12,8 @@ use Rattle.conic.specs.Said as conic
 use Rattle.kepler.specs.Kepler.{keplerOf}
 use Rattle.theta.specs.Theta.{thetaOf}
 use Rattle.card.specs.Fields.{numberAt, problemOf}
-use Rattle.lines.specs.declared.Question.{Question}
-use Rattle.lines.specs.declared.Question.the-variants as question
+use Rattle.line.specs.declared.Question.{Question}
+use Rattle.line.specs.declared.Question.the-variants as question
 
 -- Lines 1: the bytes of one record
 abbrev pub widthOf : Question → ℕ
@@ -47,3 +47,7 @@ unfoldable pub lineOf : Question → (bytes : List ℕ) → List ℕ
 lineOf question.Root bytes = rootLine (rootOf (numberAt bytes 0))
 lineOf question.Kepler bytes = outcomeLine (keplerOf (problemOf bytes))
 lineOf question.Theta bytes = outcomeLine (turned (problemOf bytes))
+
+-- the bytes of the longest line
+abbrev pub longestLine : ℕ
+longestLine = 137

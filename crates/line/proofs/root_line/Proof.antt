@@ -1,8 +1,8 @@
--- `lines::root_line` meets its contract, in either case.
+-- `line::root_line` meets its contract, in either case.
 use Rattle.text.proofs.Puts.{puts, last, wrote}
 use borrow.Author.Needs.{needs}
-use Rattle.lines.proofs.root_line.Statement.{statement}
-use Rattle.lines.proofs.root_line.Tie as tie
+use Rattle.line.proofs.root_line.Statement.{statement}
+use Rattle.line.proofs.root_line.Tie as tie
 
 returns : tie.Need-returns
 returns c =

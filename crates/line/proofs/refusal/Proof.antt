@@ -1,8 +1,8 @@
--- `lines::refusal` meets its contract.
+-- `line::refusal` meets its contract.
 use Rattle.text.proofs.Puts.{puts, last, wrote}
 use borrow.Author.Needs.{needs}
-use Rattle.lines.proofs.refusal.Statement.{statement}
-use Rattle.lines.proofs.refusal.Tie as tie
+use Rattle.line.proofs.refusal.Statement.{statement}
+use Rattle.line.proofs.refusal.Tie as tie
 
 returns : tie.Need-returns
 returns c =

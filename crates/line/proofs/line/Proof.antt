@@ -1,16 +1,16 @@
--- `lines::line` meets its contract.
+-- `line::line` meets its contract.
 use mathlib.Core.Path.{_≡_, refl, sym, ap, _∙_}
 use mathlib.Core.List.{List}
 use Prim.Native.Nat.{ℕ}
 use Rattle.root.specs.Root.{rootOf}
 use Rattle.kepler.specs.Kepler.{keplerOf}
 use Rattle.card.specs.Fields.{numberAt, problemOf}
-use Rattle.lines.specs.declared.Question.the-variants as question
-use Rattle.lines.specs.Line.{lineOf, rootLine, outcomeLine, turned}
-use Rattle.text.proofs.Puts.{renamed}
+use Rattle.line.specs.declared.Question.the-variants as question
+use Rattle.line.specs.Line.{lineOf, rootLine, outcomeLine, turned}
+use Rattle.text.proofs.Puts.{renamed, both}
 use borrow.Author.Needs.{needs}
-use Rattle.lines.proofs.line.Statement.{statement}
-use Rattle.lines.proofs.line.Tie as tie
+use Rattle.line.proofs.line.Statement.{statement}
+use Rattle.line.proofs.line.Tie as tie
 
 -- what each question comes to
 root-of : (bytes : List ℕ) → lineOf question.Root bytes ≡ rootLine (rootOf (numberAt bytes 0))
@@ -28,17 +28,17 @@ theta-of bytes = refl
 returns : tie.Need-returns
 returns c =
     let root = ap rootLine (c .before .before .before .before .root .ensures ∙ ap rootOf (c .before .before .before .before .before .number .ensures)) in
-    rw (c .before .before .before .before .before .before .enum-told .given .1) (renamed (root ∙ sym (root-of (c .before .before .before .before .before .before .before .before .before .before .args .s .now))) (c .before .before .root-line .ensures))
+    rw (c .before .before .before .before .before .before .enum-told .given .1) (both (renamed (root ∙ sym (root-of (c .before .before .before .before .before .before .before .before .before .before .args .s .now))) (c .before .before .root-line .ensures)))
 
 returns-2 : tie.Need-returns-2
 returns-2 c =
     let state = ap outcomeLine (c .before .before .before .before .kepler .ensures ∙ ap keplerOf (c .before .before .before .before .before .problem .ensures)) in
-    rw (c .before .before .before .before .before .before .enum-told2 .given .1) (renamed (state ∙ sym (kepler-of (c .before .before .before .before .before .before .before .before .before .before .args .s .now))) (c .before .before .outcome-line .ensures))
+    rw (c .before .before .before .before .before .before .enum-told2 .given .1) (both (renamed (state ∙ sym (kepler-of (c .before .before .before .before .before .before .before .before .before .before .args .s .now))) (c .before .before .outcome-line .ensures)))
 
 returns-3 : tie.Need-returns-3
 returns-3 c =
     let state = ap outcomeLine (c .before .before .before .before .turned .ensures ∙ ap turned (c .before .before .before .before .before .problem2 .ensures)) in
-    rw (c .before .before .before .before .before .before .enum-told3 .given .1) (renamed (state ∙ sym (theta-of (c .before .before .before .before .before .before .before .before .before .before .args .s .now))) (c .before .before .outcome-line2 .ensures))
+    rw (c .before .before .before .before .before .before .enum-told3 .given .1) (both (renamed (state ∙ sym (theta-of (c .before .before .before .before .before .before .before .before .before .before .args .s .now))) (c .before .before .outcome-line2 .ensures)))
 
 pub line-spec : {M : Type 1} → statement M
 line-spec =

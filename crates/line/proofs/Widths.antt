@@ -1,0 +1,41 @@
+-- How many bytes a record has, and how long a line can be.
+use Prim.Native.Nat.{ℕ, _≤_}
+use mathlib.Core.List.{List}
+use native.Mathlib.Omega.{arith}
+use lib.ListN.{length, length-append}
+use Rattle.text.proofs.Length.{length-count, length-number}
+use Rattle.root.specs.Said as root
+use Rattle.root.specs.Root.{rootOf}
+use Rattle.conic.specs.Said as conic
+use Rattle.kepler.specs.Kepler.{keplerOf}
+use Rattle.card.specs.Fields.{numberAt, problemOf}
+use Rattle.line.specs.declared.Question.{Question}
+use Rattle.line.specs.declared.Question.the-variants as question
+use Rattle.line.specs.Line.{widthOf, rootLine, outcomeLine, turned, lineOf, longestLine}
+
+-- the bytes of a record
+pub width-least : (asked : Question) → 8 ≤ widthOf asked
+width-least question.Root = omega arith
+width-least question.Kepler = omega arith
+width-least question.Theta = omega arith
+
+pub width-most : (asked : Question) → widthOf asked ≤ 68
+width-most question.Root = omega arith
+width-most question.Kepler = omega arith
+width-most question.Theta = omega arith
+
+-- the longest line
+root-most : (s : root.Said) → length (rootLine s) ≤ longestLine
+root-most (root.root x) = simp (length-append, length-number x) (omega arith)
+root-most (root.refused k) = simp length-append (omega (arith, length-count k))
+
+outcome-most : (s : conic.Said) → length (outcomeLine s) ≤ longestLine
+outcome-most (conic.solved x n state) = simp (length-append, length-number x, length-number (state .r .x), length-number (state .r .y), length-number (state .r .z), length-number (state .v .x), length-number (state .v .y), length-number (state .v .z)) (omega (arith, length-count n))
+outcome-most (conic.refused k n) = simp length-append (omega (arith, length-count k, length-count n))
+outcome-most (conic.refusedWithBracket k n lo hi) = simp (length-append, length-number lo, length-number hi) (omega (arith, length-count k, length-count n))
+
+pub line-most : (asked : Question) (bytes : List ℕ) → length (lineOf asked bytes) ≤ longestLine
+unfolding lineOf
+line-most question.Root bytes = root-most (rootOf (numberAt bytes 0))
+line-most question.Kepler bytes = outcome-most (keplerOf (problemOf bytes))
+line-most question.Theta bytes = outcome-most (turned (problemOf bytes))
