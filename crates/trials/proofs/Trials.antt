@@ -1,6 +1,6 @@
 -- The table of trials holds: antt computes each line from the definitions.
 use mathlib.Core.Path.{refl}
-use lib.Ieee.{round, add, sub, mul, div, neg, lt, le, eq, ne, ofBits}
+use lib.Ieee.{round, add, sub, mul, div, neg, lt, le, eq, ne, ofInt, ofBits, toBits}
 use Rattle.exact.specs.Numbers.{magnitude, isNear, steps}
 use Rattle.root.specs.Whole.{wholeRoot}
 use Rattle.root.specs.Root.{radicand, nearestRoot, rootOf}
@@ -12,8 +12,16 @@ use Rattle.conic.specs.TimeAndRatio.{timeAt}
 use Rattle.conic.specs.Unfolding.{unfolded, arrivalOf, arrivalAt}
 use Rattle.entry.specs.Entry.{inputsTested, rooted, radiusOf, unitOf, testedBy, scaledBy, scaledOf, farEndOf, bracketedBy, startOf, entryOf}
 use Rattle.kepler.specs.Kepler.{arrivedAt, foundIn, keplerOf}
+use Rattle.words.specs.Words.{value, valueAt, bytesOf}
+use Rattle.card.specs.Fields.{kindOf, sizeOf, problemOf}
+use Rattle.card.specs.Made.{numbersBytes}
+use Rattle.card.specs.Verdict.{unfoldsTo, atX, solvedCard, refusedCard, verdictOn}
+use Rattle.deck.specs.Contents.{entryIn, cardsFrom, cardsOf}
+use Rattle.deck.specs.Tally.{countedAll, residualsOf}
+use Rattle.text.specs.Text.{decimal, hex}
+use Rattle.listing.specs.Listing.{cardLines, listingOf}
 use Rattle.trials.specs.Table.{AllHold, table}
 
 pub all-hold : AllHold table
-unfolding round add sub mul div neg lt le eq ne ofBits magnitude isNear steps wholeRoot radicand nearestRoot rootOf firstGuess narrowedBy nextGuess hunt searchOf must onward coefficients workedFrom worked functionsAt timeAt unfolded arrivalOf arrivalAt inputsTested rooted radiusOf unitOf testedBy scaledBy scaledOf farEndOf bracketedBy startOf entryOf arrivedAt foundIn keplerOf
-all-hold = (refl, (refl, (refl, (refl, (refl, (refl, (refl, (refl, (refl, (refl, (refl, (refl, (refl, (refl, (refl, tt)))))))))))))))
+unfolding round add sub mul div neg lt le eq ne ofInt ofBits toBits magnitude isNear steps wholeRoot radicand nearestRoot rootOf firstGuess narrowedBy nextGuess hunt searchOf must onward coefficients workedFrom worked functionsAt timeAt unfolded arrivalOf arrivalAt inputsTested rooted radiusOf unitOf testedBy scaledBy scaledOf farEndOf bracketedBy startOf entryOf arrivedAt foundIn keplerOf value valueAt bytesOf numbersBytes kindOf sizeOf problemOf unfoldsTo atX solvedCard refusedCard verdictOn entryIn cardsFrom cardsOf countedAll residualsOf decimal hex cardLines listingOf
+all-hold = (refl, (refl, (refl, (refl, (refl, (refl, (refl, (refl, (refl, (refl, (refl, (refl, (refl, (refl, (refl, (refl, tt))))))))))))))))

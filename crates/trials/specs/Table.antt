@@ -1,4 +1,4 @@
--- The trials that RULES, Trials, marks P, in its order: one table, a line a trial. Definitions only.
+-- The trials that RULES, Trials, marks P, in its order, and deck A: one table, a line a trial. Definitions only.
 use mathlib.Core.Path.{_≡_}
 use mathlib.Core.List.{List, [], _∷_}
 use Prim.Native.Nat.{ℕ}
@@ -17,6 +17,10 @@ use Rattle.conic.specs.TimeAndRatio.{ratioAt}
 use Rattle.conic.specs.Unfolding.{stateAt}
 use Rattle.entry.specs.Entry.{sixtyFour, eight, entryOf}
 use Rattle.kepler.specs.Kepler.{keplerOf}
+use Rattle.words.specs.Words.{bytesOf}
+use Rattle.card.specs.Made.{problemBytes, solvedBody, refusedBody}
+use Rattle.text.specs.Text.{text, joined}
+use Rattle.listing.specs.Listing.{listingOf}
 
 -- a trial: what is tried, and what it has to give
 pub data Trial : Type 0 where
@@ -26,6 +30,8 @@ pub data Trial : Type 0 where
   -- at x: U1, U2, R and the position
   unfoldsAt : Problem → (x : Float) → (u1 u2 ratio : Float) → Vector → Trial
   keplerGives : Problem → Said → Trial
+  -- a deck's bytes, and its whole listing
+  listingGives : (deck listing : List ℕ) → Trial
 
 abbrev alphaAndFarEnd : Scaled × Bracket → Float × Float
 alphaAndFarEnd e = (e .0 .alpha, e .1 .hi .x)
@@ -41,6 +47,7 @@ Holds (rootGives x s) = rootOf x ≡ s
 Holds (startsAt p alpha X) = onward (entryOf p) (λ e. pass (alphaAndFarEnd e)) ≡ pass (alpha, X)
 Holds (unfoldsAt p x u1 u2 ratio r) = onward (entryOf p) (λ e. pass (unfoldedAt x e)) ≡ pass (u1, u2, ratio, r)
 Holds (keplerGives p s) = keplerOf p ≡ s
+Holds (listingGives deck listing) = listingOf deck ≡ listing
 
 abbrev pub AllHold : List Trial → Type 0
 AllHold [] = Unit {0}
@@ -66,6 +73,24 @@ diagonal = vector one one nought
 abbrev across : Float → Vector
 across y = vector nought y nought
 
+-- deck A: version 1 and three cards, the first solved, the second refused with 7, the third the first with another position
+abbrev entry : (number offset size : ℕ) → List ℕ
+entry number offset size = joined (bytesOf 4 number ∷ bytesOf 4 offset ∷ bytesOf 4 size ∷ [])
+
+abbrev solvedAt : (position : Vector) → List ℕ
+solvedAt position = solvedBody (problemBytes (problem (across one) nought 20)) nought (record { r = position; v = across one })
+
+abbrev deckA : List ℕ
+deckA =
+    joined (
+      bytesOf 4 1 ∷ bytesOf 4 3
+      ∷ entry 1 44 128 ∷ entry 2 172 80 ∷ entry 1 252 128
+      ∷ solvedAt (vector one nought nought)
+      ∷ refusedBody (problemBytes (problem (vector one nought nought) nought 20)) 7
+      ∷ solvedAt (vector (numberOf 0x4000_0000_0000_0000) nought nought)
+      ∷ []
+    )
+
 abbrev pub table : List Trial
 table =
     -- the root of 4, 0.25, 2^-1074, -0 and -1
@@ -89,4 +114,6 @@ table =
     ∷ keplerGives (given (numberOf 0xbff0_0000_0000_0000) (across nan) nought 20) (refused 1 0)
     -- v (1,1,0), dt 20, limit 1
     ∷ keplerGives (problem diagonal (numberOf 0x4034_0000_0000_0000) 1) (refusedWithBracket 10 1 nought (numberOf 0x4034_0000_0000_0000))
+    -- deck A
+    ∷ listingGives deckA (text "card 1 solved 0\ncard 2 refused 0\ncard 3 solved 22\nsolved 1 refused 1 rejected 1\nmean 0000000000000000\nworst 0000000000000000\n")
     ∷ []
