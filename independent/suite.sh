@@ -24,8 +24,7 @@ build_independent() {
     (cd independent && CARGO_TARGET_DIR=target cargo build --release --offline --quiet)
 }
 
-# The most inputs that are compared at a time: a program reads no more in one run, and files of
-# their own take room.
+# The most inputs that are compared at a time: they and their answers take room.
 batch_of() { # WIDTH
     if [ "$1" = - ]; then echo 1000; else echo 65536; fi
 }

@@ -55,11 +55,11 @@ puts {before} {middle} {after} {s} {t} {at} {next} {end} p q =
     record {
       ends = stop ∙ then-ends (at + length s) (length t) (length before) ∙ ap (λ (k : ℕ). min k (length before)) whole;
       holds =
-        q .holds
-        ∙ ap (λ (l : List ℕ). sets l next t) (p .holds)
-        ∙ ap (λ (k : ℕ). sets (sets before at s) k t) clamp
-        ∙ clamped (sets before at s) (at + length s) t
-        ∙ sym (sets-append before at s t);
+          q .holds
+          ∙ ap (λ (l : List ℕ). sets l next t) (p .holds)
+          ∙ ap (λ (k : ℕ). sets (sets before at s) k t) clamp
+          ∙ clamped (sets before at s) (at + length s) t
+          ∙ sym (sets-append before at s t);
     }
 
 -- a piece known by another name
@@ -142,10 +142,10 @@ as-far l at s h = go (leb (length s) (length l - at)) refl
         record {
           ends = omega (arith, some, over);
           holds =
-            rw some
-            (sym (sets-beyond (sets l at (take n s)) (at + length (take n s)) (drop n s) (rw (taken, length-sets l at (take n s)) (omega arith)))
-            ∙ sym (sets-append l at (take n s) (drop n s))
-            ∙ ap (sets l at) (take-append-drop n s));
+              rw some
+              (sym (sets-beyond (sets l at (take n s)) (at + length (take n s)) (drop n s) (rw (taken, length-sets l at (take n s)) (omega arith)))
+              ∙ sym (sets-append l at (take n s) (drop n s))
+              ∙ ap (sets l at) (take-append-drop n s));
         }
 
 -- a digit set in front of those that stand

@@ -83,12 +83,12 @@ solvedAt position = solvedBody (problemBytes (problem (across one) nought 20)) n
 abbrev deckA : List ℕ
 deckA =
     joined (
-      bytesOf 4 1 ∷ bytesOf 4 3
-      ∷ entry 1 44 128 ∷ entry 2 172 80 ∷ entry 1 252 128
-      ∷ solvedAt (vector one nought nought)
-      ∷ refusedBody (problemBytes (problem (vector one nought nought) nought 20)) 7
-      ∷ solvedAt (vector (numberOf 0x4000_0000_0000_0000) nought nought)
-      ∷ []
+    bytesOf 4 1 ∷ bytesOf 4 3
+    ∷ entry 1 44 128 ∷ entry 2 172 80 ∷ entry 1 252 128
+    ∷ solvedAt (vector one nought nought)
+    ∷ refusedBody (problemBytes (problem (vector one nought nought) nought 20)) 7
+    ∷ solvedAt (vector (numberOf 0x4000_0000_0000_0000) nought nought)
+    ∷ []
     )
 
 abbrev pub table : List Trial

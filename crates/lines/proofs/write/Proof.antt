@@ -35,9 +35,9 @@ turn {asked} {s} {at = at} {w = w} g e h p =
     let left : length (drop at s) ≡ length s - at = length-drop at s in
     let one : linesOf asked (drop at s) ≡ lineOf asked (take (widthOf asked) (drop at s)) ++ linesOf asked (drop (widthOf asked) (drop at s)) = first-line asked (drop at s) (omega (arith, left)) in
     let next-line : linesOf asked (drop at s) ≡ lineOf asked (take w (drop at s)) ++ linesOf asked (drop (at + w) s) =
-        one
-        ∙ ap (λ (k : ℕ). lineOf asked (take k (drop at s)) ++ linesOf asked (drop k (drop at s))) (sym e)
-        ∙ ap (λ (l : List ℕ). lineOf asked (take w (drop at s)) ++ linesOf asked l) (drop-drop w at s) in
+    one
+    ∙ ap (λ (k : ℕ). lineOf asked (take k (drop at s)) ++ linesOf asked (drop k (drop at s))) (sym e)
+    ∙ ap (λ (l : List ℕ). lineOf asked (take w (drop at s)) ++ linesOf asked l) (drop-drop w at s) in
     record {
       done = g .done ++ lineOf asked (take w (drop at s));
       written = puts (g .written) p;

@@ -7,7 +7,7 @@ use Rattle.records.proofs.list.Statement.{statement}
 use Rattle.records.proofs.list.Tie as tie
 
 abbrev Inv-loop : tie.InvT-loop
-Inv-loop asked blocks₀ space₀ page₀ blocks space page = (length space ≡ 4352) × (length page ≡ 8774)
+Inv-loop asked blocks₀ space₀ page₀ blocks space page = (length space ≡ length space₀) × (length page ≡ length page₀)
 
 abbrev μ-loop : tie.MeasureT-loop
 μ-loop asked blocks₀ space₀ page₀ blocks space page = 18446744073709551615 - blocks

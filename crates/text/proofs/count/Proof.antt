@@ -69,10 +69,10 @@ turn {n} {left} {rest} {d} {digits} p h e =
     let enough : 2 ≤ left = two left (p .least) (p .small) h in
     let one-back : left - 1 ≡ suc (left - 1 - 1) = omega arith in
     let split : more (left - 1) rest ≡ more (left - 1 - 1) (rest / 10) ++ (d ∷ []) =
-        ap (λ (b : Bool). cond b [] (decimal (left - 1) rest)) (ne-eqb rest 0 (λ z. not-none h z))
-        ∙ ap (λ (k : ℕ). decimal k rest) one-back
-        ∙ one-digit (left - 1 - 1) rest
-        ∙ ap (λ (b : ℕ). more (left - 1 - 1) (rest / 10) ++ (b ∷ [])) (sym e) in
+    ap (λ (b : Bool). cond b [] (decimal (left - 1) rest)) (ne-eqb rest 0 (λ z. not-none h z))
+    ∙ ap (λ (k : ℕ). decimal k rest) one-back
+    ∙ one-digit (left - 1 - 1) rest
+    ∙ ap (λ (b : ℕ). more (left - 1 - 1) (rest / 10) ++ (b ∷ [])) (sym e) in
     record {
       long = length-set digits (left - 1) d ∙ p .long;
       least = omega arith;
@@ -80,10 +80,10 @@ turn {n} {left} {rest} {d} {digits} p h e =
       spaced = λ i k. getD-set-other digits (left - 1) i d 0 (λ z. not-there k z) ∙ p .spaced i (omega arith);
       small = omega (arith, p .small, ap (λ (k : ℕ). 10 ^ k) one-back ∙ pow-succ' 10 (left - 1 - 1));
       all =
-        p .all
-        ∙ ap (λ (l : List ℕ). l ++ drop left digits) split
-        ∙ append-snoc (more (left - 1 - 1) (rest / 10)) d (drop left digits)
-        ∙ ap (λ (l : List ℕ). more (left - 1 - 1) (rest / 10) ++ l) (sym (in-front digits left d (omega arith) (omega (arith, p .long, p .most))));
+          p .all
+          ∙ ap (λ (l : List ℕ). l ++ drop left digits) split
+          ∙ append-snoc (more (left - 1 - 1) (rest / 10)) d (drop left digits)
+          ∙ ap (λ (l : List ℕ). more (left - 1 - 1) (rest / 10) ++ l) (sym (in-front digits left d (omega arith) (omega (arith, p .long, p .most))));
     }
 
 finished : {n left rest : ℕ} {digits : List ℕ} → Spelt n digits left rest → rest ≤ 0 → drop (left - 1) digits ≡ count n
@@ -92,7 +92,7 @@ finished {n} {left} {rest} {digits} p h =
     let first : suc (left - 1) ≡ left = omega (arith, p .least) in
     let rest-is : decimal 10 n ≡ drop left digits = p .all ∙ ap (λ (k : ℕ). more (left - 1) k ++ drop left digits) none in
     let here : drop (left - 1) digits ≡ 32 ∷ drop left digits =
-        rw (drop-cons digits (left - 1) 0 (omega (arith, p .long, p .least, p .most)), p .spaced (left - 1) (omega (arith, p .least)), first) in
+    rw (drop-cons digits (left - 1) 0 (omega (arith, p .long, p .least, p .most)), p .spaced (left - 1) (omega (arith, p .least)), first) in
     here ∙ ap (λ (l : List ℕ). 32 ∷ l) (sym rest-is)
 
 -- the part from the space on is all that stands there

@@ -35,10 +35,10 @@ turn {w} {left} {rest} {d} {digits} p h e =
       most = omega (arith, p .most);
       spaced = take-set-le 1 digits (left - 1) d (omega arith) ∙ p .spaced;
       all =
-        p .all
-        ∙ ap (λ (l : List ℕ). l ++ drop left digits) split
-        ∙ append-snoc (hex (left - 1 - 1) (rest / 16)) d (drop left digits)
-        ∙ ap (λ (l : List ℕ). hex (left - 1 - 1) (rest / 16) ++ l) (sym (in-front digits left d (omega arith) (omega (arith, p .long, p .most))));
+          p .all
+          ∙ ap (λ (l : List ℕ). l ++ drop left digits) split
+          ∙ append-snoc (hex (left - 1 - 1) (rest / 16)) d (drop left digits)
+          ∙ ap (λ (l : List ℕ). hex (left - 1 - 1) (rest / 16) ++ l) (sym (in-front digits left d (omega arith) (omega (arith, p .long, p .most))));
     }
 
 finished : {w left rest : ℕ} {digits : List ℕ} → Found w digits left rest → left ≤ 1 → digits ≡ worded w
