@@ -10,7 +10,7 @@ find_kit() {
         rt=${rt:-$home/bin/rt}
     elif [ -n "$rt" ]; then
         home=$(readlink -f "$rt")
-        home=$(dirname "$(dirname "$home")")
+        home=${home%/*/*}
     else
         die "the Rattle kit is missing: put its 'rt' on the PATH, or set RATTLE_HOME to its folder"
     fi
