@@ -1,19 +1,13 @@
 /* Times the proved functions and the two builds of bench/baseline.c on the same problems and the same
  * deck, and holds their answers to each other bit by bit. Problems come from standard input.
  * Status: 0 all agree, 1 a difference, 2 something is missing. */
-#include "baseline.h"
+#include "timing.h"
 
-/* Of the C library; see baseline.h. */
-struct timespec { long tv_sec, tv_nsec; };
-int clock_gettime(int clock, struct timespec *now);
-long read(int file, void *into, size_t size);
-int printf(const char *format, ...);
-int dprintf(int file, const char *format, ...);
+/* Of the C library too. */
 void exit(int status) __attribute__((noreturn));
 
 enum { PROBLEMS = 20000, ROUNDS = 15, CHECKS = 20 };
 enum { DECK_SIZE = 8 + 12 * MOST_CARDS + SOLVED_SIZE * MOST_CARDS };
-enum { MONOTONIC = 1 };
 enum { PREDICT, CHECK, KINDS };
 
 typedef struct {
@@ -50,13 +44,6 @@ static void fail(int status, const char *why, size_t number)
 /* Every NaN counts as the same, as it does for the proved functions. */
 static int same(double a, double b) { return __builtin_memcmp(&a, &b, sizeof a) == 0 || (a != a && b != b); }
 
-static double seconds(void)
-{
-    struct timespec now;
-    clock_gettime(MONOTONIC, &now);
-    return now.tv_sec + now.tv_nsec * 1e-9;
-}
-
 /* The median of the first one's times, or of their ratios to the second one's, round by round: what
  * else the machine does in a round slows both. */
 static double median(const double *times, const double *others)
@@ -74,10 +61,7 @@ static double median(const double *times, const double *others)
 
 static void read_problems(void)
 {
-    size_t size = 0;
-    long got;
-    while (size < sizeof problems && (got = read(0, problems + size, sizeof problems - size)) > 0)
-        size += got;
+    size_t size = read_full(problems, sizeof problems);
     if (size != sizeof problems)
         fail(2, "20000 problems are wanted, and there are", size / PROBLEM_SIZE);
 }

@@ -18,7 +18,7 @@ use Rattle.card.specs.Verdict.{verdictOn}
 use Rattle.deck.specs.declared.Totals.{Totals}
 use Rattle.deck.specs.Contents.{entryAt, countOf, cardsOf}
 use Rattle.deck.specs.Tally.{Residuals, tallyOf}
-use Rattle.deck.specs.Check.{verdictsOf, judgedOf, tallied, answerOf, written, listAfter}
+use Rattle.deck.specs.Check.{verdictsOf, numbersOf, judgedOf, tallied, answerOf, written, listAfter}
 use Rattle.deck.proofs.Cards.{KindsFrom, kinds-named}
 use Rattle.deck.proofs.Opened.{opened-to}
 use Rattle.deck.proofs.Tallied.{totals-add-up}
@@ -116,7 +116,7 @@ pub record Answered (deck list : List ℕ) (totals : Totals) (r : Residuals) : T
   pub tally : tallyOf (verdictsOf cards) ≡ (totals, r)
   pub as-many : totals .solved + totals .refused + totals .rejected ≡ length cards
   pub few : length cards ≤ 256
-  pub numbers : listAfter deck list ≡ map numberIn (verdictsOf cards) ++ drop (length (verdictsOf cards)) list
+  pub numbers : listAfter deck list ≡ numbersOf cards ++ drop (length (verdictsOf cards)) list
 
 pub answered : (deck list : List ℕ) (totals : Totals) (r : Residuals) → answerOf deck (length list) ≡ pass (totals, r) → Answered deck list totals r
 unfolding answerOf listAfter

@@ -19,17 +19,13 @@ use Rattle.card.specs.Verdict.{verdictOn}
 use Rattle.deck.specs.declared.tally.Running.{Running}
 use Rattle.deck.specs.Contents.{entryAt, entryIn, cardsFrom, Passes}
 use Rattle.deck.specs.Tally.{nothing, counted, countedAll, residualsOf, totalsOf}
-use Rattle.deck.specs.Check.{verdictsOf, judgedFrom, tallied, written}
+use Rattle.deck.specs.Check.{verdictsOf, numbersOf, judgedFrom, tallied, written}
 use Rattle.deck.proofs.Tallied.{totalOf, one-counted}
 use Rattle.deck.proofs.Cards.{cardAt, entry-inside, one-more, come-to-cards, no-more, as-many}
 
 -- while an entry is left, the part of the list that is lent on has a place
 pub some-left : (i : ℕ) (list : List ℕ) → i < length list → 0 < length (take (length list - i) (drop i list))
 some-left i list h = rw (length-take-le (length list - i) (drop i list) (le-of-eq (sym (length-drop i list)))) (omega arith)
-
--- the numbers that the list gets
-abbrev numbers : List Card → List ℕ
-numbers cards = map numberIn (verdictsOf cards)
 
 pub record Going (deck : List ℕ) (count : ℕ) (before list : List ℕ) (i at : ℕ) (n : Running) : Type 0 where
   pub all : List Card
@@ -39,7 +35,7 @@ pub record Going (deck : List ℕ) (count : ℕ) (before list : List ℕ) (i at 
   pub few : i ≤ count
   pub inside : at ≤ length deck
   pub tally : countedAll n (verdictsOf rest) ≡ countedAll nothing (verdictsOf all)
-  pub written-on : sets list i (numbers rest) ≡ sets before 0 (numbers all)
+  pub written-on : sets list i (numbersOf rest) ≡ sets before 0 (numbersOf all)
   pub as-long : length list ≡ length before
   pub total : totalOf n ≡ i
 
@@ -75,7 +71,7 @@ module _ {deck : List ℕ} {count : ℕ} {before list : List ℕ} {i at : ℕ} {
         few = omega arith;
         inside = entry-inside deck i at kind e;
         tally = sym (ap (λ (r : List Card). countedAll n (verdictsOf r)) rest-is) ∙ g .tally;
-        written-on = ap (λ (k : ℕ). sets (set list i (numberIn v)) k (numbers (m .rest))) (add-one i) ∙ sym (ap (λ (r : List Card). sets list i (numbers r)) rest-is) ∙ g .written-on;
+        written-on = ap (λ (k : ℕ). sets (set list i (numberIn v)) k (numbersOf (m .rest))) (add-one i) ∙ sym (ap (λ (r : List Card). sets list i (numbersOf r)) rest-is) ∙ g .written-on;
         as-long = length-set list i (numberIn v) ∙ g .as-long;
         total = one-counted n v ∙ ap (λ (k : ℕ). k + 1) (g .total);
       }
@@ -99,12 +95,12 @@ module _ {deck : List ℕ} {count : ℕ} {before list : List ℕ} {i at : ℕ} {
   unfolding countedAll
   all-tallied h = sym (ap (λ (r : List Card). countedAll n (verdictsOf r)) (finished h)) ∙ g .tally
 
-  all-written : count ≤ i → count ≤ length before → list ≡ numbers (g .all) ++ drop (length (verdictsOf (g .all))) before
+  all-written : count ≤ i → count ≤ length before → list ≡ numbersOf (g .all) ++ drop (length (verdictsOf (g .all))) before
   all-written h room =
-      let many : 0 + length (numbers (g .all)) ≡ length (verdictsOf (g .all)) = zero-add (length (numbers (g .all))) ∙ length-map (verdictsOf (g .all)) numberIn in
+      let many : 0 + length (numbersOf (g .all)) ≡ length (verdictsOf (g .all)) = zero-add (length (numbersOf (g .all))) ∙ length-map (verdictsOf (g .all)) numberIn in
       let verdicts-many : length (verdictsOf (g .all)) ≡ count = length-map (g .all) (λ (c : Card). verdictOn (c .kind) (c .body)) ∙ as-many deck count 0 (entryAt count) (g .all) (g .whole) in
-      let fits : 0 + length (numbers (g .all)) ≤ length before = omega (arith, many, verdicts-many) in
-      sym (ap (λ (r : List Card). sets list i (numbers r)) (finished h)) ∙ g .written-on ∙ sets-eq (numbers (g .all)) before 0 fits ∙ ap (λ (k : ℕ). numbers (g .all) ++ drop k before) many
+      let fits : 0 + length (numbersOf (g .all)) ≤ length before = omega (arith, many, verdicts-many) in
+      sym (ap (λ (r : List Card). sets list i (numbersOf r)) (finished h)) ∙ g .written-on ∙ sets-eq (numbersOf (g .all)) before 0 fits ∙ ap (λ (k : ℕ). numbersOf (g .all) ++ drop k before) many
 
   pub answer-is : count ≤ i → pass (totalsOf n, residualsOf n) ≡ tallied (judgedFrom deck count)
   unfolding onward

@@ -15,7 +15,11 @@ use Rattle.deck.specs.Tally.{Residuals, tallyOf}
 abbrev pub verdictsOf : List Card → List Said
 verdictsOf cards = map (λ (c : Card). verdictOn (c .kind) (c .body)) cards
 
--- the same for `count` entries, from the first one on
+-- their numbers, as the verdict list has them
+abbrev pub numbersOf : List Card → List ℕ
+numbersOf cards = map numberIn (verdictsOf cards)
+
+-- the verdicts for `count` entries, from the first one on
 abbrev pub judgedFrom : List ℕ → (count : ℕ) → Checked (List Said)
 judgedFrom deck count = onward (cardsFrom deck count 0 (entryAt count)) (λ cards. pass (verdictsOf cards))
 

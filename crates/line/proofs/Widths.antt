@@ -11,7 +11,7 @@ use Rattle.kepler.specs.Kepler.{keplerOf}
 use Rattle.card.specs.Fields.{numberAt, problemOf}
 use Rattle.line.specs.declared.Question.{Question}
 use Rattle.line.specs.declared.Question.the-variants as question
-use Rattle.line.specs.Line.{widthOf, rootLine, outcomeLine, turned, lineOf, longestLine}
+use Rattle.line.specs.Line.{widthOf, rootLine, outcomeLine, turned, lineOf, mostLine}
 
 -- the bytes of a record
 pub width-least : (asked : Question) → 8 ≤ widthOf asked
@@ -25,16 +25,16 @@ width-most question.Kepler = omega arith
 width-most question.Theta = omega arith
 
 -- the longest line
-root-most : (s : root.Said) → length (rootLine s) ≤ longestLine
+root-most : (s : root.Said) → length (rootLine s) ≤ mostLine
 root-most (root.root x) = simp (length-append, length-number x) (omega arith)
 root-most (root.refused k) = simp length-append (omega (arith, length-count k))
 
-outcome-most : (s : conic.Said) → length (outcomeLine s) ≤ longestLine
+outcome-most : (s : conic.Said) → length (outcomeLine s) ≤ mostLine
 outcome-most (conic.solved x n state) = simp (length-append, length-number x, length-number (state .r .x), length-number (state .r .y), length-number (state .r .z), length-number (state .v .x), length-number (state .v .y), length-number (state .v .z)) (omega (arith, length-count n))
 outcome-most (conic.refused k n) = simp length-append (omega (arith, length-count k, length-count n))
 outcome-most (conic.refusedWithBracket k n lo hi) = simp (length-append, length-number lo, length-number hi) (omega (arith, length-count k, length-count n))
 
-pub line-most : (asked : Question) (bytes : List ℕ) → length (lineOf asked bytes) ≤ longestLine
+pub line-most : (asked : Question) (bytes : List ℕ) → length (lineOf asked bytes) ≤ mostLine
 unfolding lineOf
 line-most question.Root bytes = root-most (rootOf (numberAt bytes 0))
 line-most question.Kepler bytes = outcome-most (keplerOf (problemOf bytes))

@@ -1,12 +1,10 @@
 -- The line of one record: RULES, Lines. Definitions only.
 use Prim.Native.Nat.{ℕ}
 use mathlib.Core.List.{List, [], _∷_}
-use lib.Ieee.{Float}
 use Rattle.text.specs.Text.{text, joined, count, number}
 use Rattle.root.specs.Said as root
 use Rattle.root.specs.Root.{rootOf}
 use Rattle.conic.specs.declared.Vector.{Vector}
-use Rattle.conic.specs.declared.State.{State}
 use Rattle.conic.specs.declared.Problem.{Problem}
 use Rattle.conic.specs.Said as conic
 use Rattle.kepler.specs.Kepler.{keplerOf}
@@ -24,7 +22,7 @@ widthOf question.Theta = 64
 abbrev pub vector : Vector → List ℕ
 vector a = joined (number (a .x) ∷ number (a .y) ∷ number (a .z) ∷ [])
 
--- Lines 2: `root NUMBER` or `refused NUMBER`
+-- Lines 2: `root WORD` or `refused NUMBER`
 abbrev pub rootLine : root.Said → List ℕ
 rootLine (root.root x) = joined (text "root" ∷ number x ∷ text "\n" ∷ [])
 rootLine (root.refused k) = joined (text "refused" ∷ count k ∷ text "\n" ∷ [])
@@ -48,6 +46,6 @@ lineOf question.Root bytes = rootLine (rootOf (numberAt bytes 0))
 lineOf question.Kepler bytes = outcomeLine (keplerOf (problemOf bytes))
 lineOf question.Theta bytes = outcomeLine (turned (problemOf bytes))
 
--- the bytes of the longest line
-abbrev pub longestLine : ℕ
-longestLine = 137
+-- no line has more bytes
+abbrev pub mostLine : ℕ
+mostLine = 137

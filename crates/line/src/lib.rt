@@ -49,7 +49,7 @@ fn turned(p: Problem) -> Outcome
     theta::theta(p.mu, p.r, p.v, p.dt)
 }
 
-// `root HEX` or `refused NUMBER`.
+// `root WORD` or `refused NUMBER`.
 fn root_line(answer: Answer, out: &mut [u8], at: usize) -> usize
     ensures { λ r. ⌜ Put (now (out .entry)) at (line.rootLine (root.said answer)) (now (out .exit)) r ⌝ }
 {

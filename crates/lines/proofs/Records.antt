@@ -8,46 +8,39 @@ use native.Mathlib.Numerals.{add-one}
 use native.Mathlib.Omega.{arith}
 use borrow.Author.Tests.{leb-true, leb-false}
 use lib.Dec.{leb}
-use lib.ListN.{length, take, drop, length-append, length-take, length-drop}
+use lib.ListN.{length, take, drop, length-append, length-drop, drop-of-length-le}
 use lib.Seq.{take-all, take-append-le, drop-append-le}
 use Rattle.text.specs.Text.{handedIn}
 use Rattle.text.proofs.Puts.{InFront, found}
 use Rattle.line.specs.declared.Question.{Question}
-use Rattle.line.specs.Line.{widthOf, lineOf, longestLine}
+use Rattle.line.specs.Line.{widthOf, lineOf, mostLine}
 use Rattle.line.proofs.Widths.{width-least, width-most, line-most}
-use Rattle.lines.specs.Lines.{leftOver, linesFrom, linesOf, blockRecords, blockBytes, mostBlock, blockOf, longestText}
+use Rattle.lines.specs.Lines.{leftOver, linesFrom, linesOf, blockRecords, blockBytes, mostBlock, blockOf, mostText}
 
 -- the most bytes that a block has
 pub block-most : (asked : Question) → blockBytes asked ≤ mostBlock
 block-most asked = omega (arith, width-most asked)
 
-some : (asked : Question) → 0 < widthOf asked
-some asked = omega (arith, width-least asked)
+width-some : (asked : Question) → 0 < widthOf asked
+width-some asked = omega (arith, width-least asked)
 
 -- where a whole record stands, its line comes first; where none does, only what is left over
 pub first-line : (asked : Question) (bytes : List ℕ) → widthOf asked ≤ length bytes → linesOf asked bytes ≡ lineOf asked (take (widthOf asked) bytes) ++ linesOf asked (drop (widthOf asked) bytes)
 unfolding linesFrom
 first-line asked bytes h =
     let w : ℕ = widthOf asked in
-    let fewer : length bytes / w ≡ suc (length (drop w bytes) / w) = div-eq-sub-div (some asked) h ∙ add-one ((length bytes - w) / w) ∙ ap (λ (k : ℕ). suc (k / w)) (sym (length-drop w bytes)) in
+    let fewer : length bytes / w ≡ suc (length (drop w bytes) / w) = div-eq-sub-div (width-some asked) h ∙ add-one ((length bytes - w) / w) ∙ ap (λ (k : ℕ). suc (k / w)) (sym (length-drop w bytes)) in
     ap (λ (k : ℕ). linesFrom asked k bytes) fewer
 
 pub no-line : (asked : Question) (bytes : List ℕ) → length bytes < widthOf asked → linesOf asked bytes ≡ leftOver bytes
 unfolding linesFrom
 no-line asked bytes h = ap (λ (k : ℕ). linesFrom asked k bytes) (div-eq-of-lt h)
 
-not-none : {n : ℕ} → suc n ≡ 0 → ⊥
-not-none e = omega arith
-
-empty : (l : List ℕ) → length l ≡ 0 → l ≡ []
-empty [] e = refl
-empty (b ∷ l) e = absurd (not-none e)
-
 -- blocks of whole records: their lines are the lines of all of them
 pub blocks-join : (asked : Question) (n : ℕ) (block rest : List ℕ) → length block ≡ n * widthOf asked → linesOf asked (block ++ rest) ≡ linesOf asked block ++ linesOf asked rest
 blocks-join asked zero block rest e =
-    let none : block ≡ [] = empty block (e ∙ zero-mul (widthOf asked)) in
-    rw none (ap (λ (l : List ℕ). l ++ linesOf asked rest) (sym (no-line asked [] (some asked))))
+    let none : block ≡ [] = drop-of-length-le block (le-of-eq (e ∙ zero-mul (widthOf asked))) in
+    rw none (ap (λ (l : List ℕ). l ++ linesOf asked rest) (sym (no-line asked [] (width-some asked))))
 blocks-join asked (suc n) block rest e =
     let w : ℕ = widthOf asked in
     let all : length block ≡ n * w + w = e ∙ suc-mul n w in
@@ -76,20 +69,20 @@ left-most : (bytes : List ℕ) → length (leftOver bytes) ≤ 6
 left-most [] = omega arith
 left-most (b ∷ bytes) = omega arith
 
-from-most : (asked : Question) (n : ℕ) (bytes : List ℕ) → length (linesFrom asked n bytes) ≤ n * longestLine + 6
+from-most : (asked : Question) (n : ℕ) (bytes : List ℕ) → length (linesFrom asked n bytes) ≤ n * mostLine + 6
 unfolding linesFrom
 from-most asked zero bytes = omega (arith, left-most bytes)
 from-most asked (suc n) bytes =
     let w : ℕ = widthOf asked in
     simp length-append (omega (arith, line-most asked (take w bytes), from-most asked n (drop w bytes)))
 
-pub text-most : (asked : Question) (bytes : List ℕ) → length bytes ≤ blockBytes asked → length (linesOf asked bytes) ≤ longestText
+pub text-most : (asked : Question) (bytes : List ℕ) → length bytes ≤ blockBytes asked → length (linesOf asked bytes) ≤ mostText
 text-most asked bytes h =
     let few : length bytes / widthOf asked ≤ blockRecords = div-le-of-le-mul (widthOf asked) (le-trans h (le-of-eq (mul-comm blockRecords (widthOf asked)))) in
     omega (arith, few, from-most asked (length bytes / widthOf asked) bytes)
 
 -- the lines of records that are no more than a block, handed over in a buffer with room for the longest text
-pub lines-found : (asked : Question) (bytes buffer : List ℕ) {after : List ℕ} {n : ℕ} → length bytes ≤ blockBytes asked → longestText ≤ length buffer
+pub lines-found : (asked : Question) (bytes buffer : List ℕ) {after : List ℕ} {n : ℕ} → length bytes ≤ blockBytes asked → mostText ≤ length buffer
     → n ≡ length (linesOf asked (blockOf asked bytes)) → after ≡ handedIn (linesOf asked (blockOf asked bytes)) buffer → InFront (linesOf asked bytes) after n
 lines-found asked bytes buffer h room e held =
     let all : linesOf asked (blockOf asked bytes) ≡ linesOf asked bytes = ap (linesOf asked) (take-all (blockBytes asked) bytes h) in

@@ -4,7 +4,7 @@ use mathlib.Core.List.{List, [], _∷_, _++_}
 use lib.ListN.{length, take, drop}
 use Rattle.text.specs.Text.{text}
 use Rattle.line.specs.declared.Question.{Question}
-use Rattle.line.specs.Line.{widthOf, lineOf, longestLine}
+use Rattle.line.specs.Line.{widthOf, lineOf, mostLine}
 
 -- Lines 4: what is left behind the last whole record: nothing, or a record that is cut off
 abbrev pub leftOver : List ℕ → List ℕ
@@ -34,6 +34,6 @@ mostBlock = blockRecords * 68
 abbrev pub blockOf : Question → List ℕ → List ℕ
 blockOf asked bytes = take (blockBytes asked) bytes
 
--- the bytes of the longest text that a block comes to
-abbrev pub longestText : ℕ
-longestText = blockRecords * longestLine + 6
+-- the lines of no block have more bytes
+abbrev pub mostText : ℕ
+mostText = blockRecords * mostLine + 6

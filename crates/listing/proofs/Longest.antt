@@ -8,7 +8,7 @@ use native.Mathlib.Omega.{arith}
 use borrow.Author.Tests.{ltb-true, ltb-false}
 use lib.Dec.{ltb}
 use lib.Ieee.{Float}
-use lib.ListN.{length, take, length-append, length-map}
+use lib.ListN.{length, length-append, length-map}
 use Rattle.text.specs.Text.{text, joined, decimal, count, handedIn}
 use Rattle.text.proofs.Puts.{InFront, found}
 use Rattle.text.proofs.Length.{length-under, length-self, length-number, length-count}
@@ -26,7 +26,7 @@ use Rattle.deck.specs.Tally.{nothing, counted, countedAll, Residuals, absent, k
 use Rattle.deck.specs.Check.{verdictsOf}
 use Rattle.deck.proofs.Tallied.{totals-add-up, first-and-others, known-is}
 use Rattle.deck.proofs.Sizes.{few-cards, read-is-enough}
-use Rattle.listing.specs.Listing.{kindWord, cardLine, cardLines, totalsLine, residualLines, acceptedLines, linesFor, listingOf, longestListing}
+use Rattle.listing.specs.Listing.{placedLine, cardLine, cardLines, totalsLine, residualLines, acceptedLines, linesFor, listingOf, longestListing}
 
 -- ---- the digits of the places
 
@@ -53,12 +53,8 @@ accepted-digit = length-under 10 0 1 (omega arith) (omega arith)
 rejected-digits : (k : Kind) (body : List ℕ) (j : ℕ) → verdictOn k body ≡ rejected j → length (decimal 10 j) ≤ 2
 rejected-digits k body j e = length-under 10 j 2 (omega arith) (rejected-numbered k body j e .1)
 
--- a card's line, from its kind and verdict
-abbrev lineOf : (place : ℕ) → Kind → Said → List ℕ
-lineOf place k v = joined (text "card" ∷ count place ∷ kindWord k ∷ count (numberIn v) ∷ text "\n" ∷ [])
-
 -- at most 17 bytes and the digits of the place; two less of a card accepted as solved, one less of one accepted as refused
-line-most : (place : ℕ) (k : Kind) (body : List ℕ) (v : Said) → verdictOn k body ≡ v → length (lineOf place k v) + (2 * counted nothing v .solved + counted nothing v .refused) ≤ 17 + length (decimal 10 place)
+line-most : (place : ℕ) (k : Kind) (body : List ℕ) (v : Said) → verdictOn k body ≡ v → length (placedLine place k (numberIn v)) + (2 * counted nothing v .solved + counted nothing v .refused) ≤ 17 + length (decimal 10 place)
 line-most place kind.Solved body (solved x) e = simp length-append (omega (arith, accepted-digit))
 line-most place kind.Solved body refused e = simp length-append (omega (arith, accepted-digit))
 line-most place kind.Solved body (rejected j) e = simp length-append (omega (arith, rejected-digits kind.Solved body j e))

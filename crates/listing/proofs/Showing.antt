@@ -2,12 +2,12 @@
 -- all cards.
 use mathlib.Core.Path.{_≡_, refl, sym, ap, subst, _∙_}
 use mathlib.Core.Bool.{true≢false}
-use mathlib.Core.List.{List, [], _∷_, _++_, map}
+use mathlib.Core.List.{List, [], _∷_, _++_}
 use Prim.Native.Nat.{ℕ, suc, _+_, _≤_, _<_}
 use native.Mathlib.Nat.{zero-add}
 use native.Mathlib.Numerals.{add-one}
 use native.Mathlib.Omega.{arith}
-use lib.ListN.{length, drop, getD, length-drop}
+use lib.ListN.{length, drop, getD, length-drop, drop-of-length-le}
 use lib.Seq.{drop-cons}
 use Rattle.text.specs.Text.{Put}
 use Rattle.text.proofs.Puts as text
@@ -16,16 +16,12 @@ use Rattle.rows.specs.Rows.{pass, refuse}
 use Rattle.rows.proofs.Laws.{pass-once}
 use Rattle.card.specs.declared.Kind.{Kind}
 use Rattle.card.specs.Fields.{Card}
-use Rattle.card.specs.Said.{numberIn}
 use Rattle.deck.specs.Contents.{kindAt, cardsOf}
-use Rattle.deck.specs.Check.{verdictsOf}
+use Rattle.deck.specs.Check.{numbersOf}
 use Rattle.deck.proofs.Cards.{KindsFrom}
 use Rattle.deck.proofs.Accepted.{all-kinds-named}
-use Rattle.listing.specs.Listing.{verdictNumber, lineOf, cardLine, cardLines, Judged}
-
--- the numbers that the list has
-abbrev numbersOf : List Card → List ℕ
-numbersOf cards = map numberIn (verdictsOf cards)
+use Rattle.listing.specs.Listing.{verdictNumber, placedLine, cardLine, cardLines}
+use Rattle.listing.specs.Judged.{Judged}
 
 pub record Showing (deck list : List ℕ) (count : ℕ) (before page : List ℕ) (i end : ℕ) : Type 0 where
   pub all : List Card
@@ -54,14 +50,10 @@ start deck list count page j =
       to-come = λ after stop p. p;
     }
 
--- a list of cards that is not empty, and one that is
+-- a list of cards that is not empty
 first : (cards : List Card) → 0 < length cards → (c : Card) × (others : List Card) × (cards ≡ c ∷ others)
 first [] h = absurd (omega arith)
 first (c ∷ others) h = (c, others, refl)
-
-empty : (cards : List Card) → length cards ≡ 0 → cards ≡ []
-empty [] h = refl
-empty (c ∷ others) h = absurd (omega arith)
 
 head-is : {x y : ℕ} {l m : List ℕ} → x ∷ l ≡ y ∷ m → x ≡ y
 head-is e = cc
@@ -93,17 +85,17 @@ module _ {deck list : List ℕ} {count : ℕ} {before page : List ℕ} {i end : 
   both-numbers : (h : i < count) → getD list i 0 ∷ drop (suc i) list ≡ verdictNumber (next h .0) ∷ (numbersOf (next h .1) ++ s .behind)
   both-numbers h = sym (drop-cons list i 0 (place h)) ∙ numbers-are h
 
-  line-is : (h : i < count) (kind : Kind) → kindAt deck i ≡ pass kind → lineOf (i + 1) kind (getD list i 0) ≡ cardLine (i + 1) (next h .0)
+  line-is : (h : i < count) (kind : Kind) → kindAt deck i ≡ pass kind → placedLine (i + 1) kind (getD list i 0) ≡ cardLine (i + 1) (next h .0)
   line-is h kind e =
       let same : kind ≡ next h .0 .kind = pass-once (sym e ∙ kind-is h) in
       rw (same, head-is (both-numbers h)) refl
 
-  lines-are : (h : i < count) (kind : Kind) → kindAt deck i ≡ pass kind → lineOf (i + 1) kind (getD list i 0) ++ cardLines (i + 1 + 1) (next h .1) ≡ cardLines (i + 1) (s .rest)
+  lines-are : (h : i < count) (kind : Kind) → kindAt deck i ≡ pass kind → placedLine (i + 1) kind (getD list i 0) ++ cardLines (i + 1 + 1) (next h .1) ≡ cardLines (i + 1) (s .rest)
   unfolding cardLines
   lines-are h kind e = ap (λ (l : List ℕ). l ++ cardLines (i + 1 + 1) (next h .1)) (line-is h kind e) ∙ sym (ap (cardLines (i + 1)) (next h .2))
 
   -- a card's line is written
-  pub turn : (kind : Kind) {after : List ℕ} {stop : ℕ} → i < count → kindAt deck i ≡ pass kind → Put page end (lineOf (i + 1) kind (getD list i 0)) after stop → Showing deck list count before after (i + 1) stop
+  pub turn : (kind : Kind) {after : List ℕ} {stop : ℕ} → i < count → kindAt deck i ≡ pass kind → Put page end (placedLine (i + 1) kind (getD list i 0)) after stop → Showing deck list count before after (i + 1) stop
   turn kind {after} {stop} h e p =
       record {
         all = s .all;
@@ -122,7 +114,7 @@ module _ {deck list : List ℕ} {count : ℕ} {before page : List ℕ} {i end : 
   finished : count ≤ i → Put before 0 (cardLines 1 (s .all)) page end
   unfolding cardLines
   finished h =
-      let ended : s .rest ≡ [] = empty (s .rest) (omega (arith, s .left)) in
+      let ended : s .rest ≡ [] = drop-of-length-le (s .rest) {i = 0} (omega (arith, s .left)) in
       s .to-come page end (renamed (sym (ap (cardLines (i + 1)) ended)) (none (s .inside)))
 
   pub shown : count ≤ i → (cards : List Card) → cardsOf deck ≡ pass cards → Put before 0 (cardLines 1 cards) page end

@@ -1,8 +1,6 @@
--- A deck's listing: RULES, The check program's listing. Definitions only.
+-- A deck's listing: RULES, The check program's listing, "The listing" below. Definitions only.
 use Prim.Native.Nat.{ℕ, _+_}
-use mathlib.Core.Path.{_≡_}
-use mathlib.Core.List.{List, [], _∷_, _++_, map}
-use lib.ListN.{length}
+use mathlib.Core.List.{List, [], _∷_, _++_}
 use Rattle.text.specs.Text.{text, joined, count, number}
 use Rattle.rows.specs.Rows.{Checked, pass, refuse}
 use Rattle.card.specs.declared.Kind.{Kind}
@@ -15,7 +13,7 @@ use Rattle.deck.specs.Contents.{cardsOf}
 use Rattle.deck.specs.Tally.{Residuals, absent, known, tallyOf}
 use Rattle.deck.specs.Check.{verdictsOf}
 
--- 2: the card's kind and its verdict's number
+-- The listing 2: the card's kind and its verdict's number
 abbrev pub kindWord : Kind → List ℕ
 kindWord kind.Solved = text " solved"
 kindWord kind.Refused = text " refused"
@@ -23,41 +21,33 @@ kindWord kind.Refused = text " refused"
 abbrev pub verdictNumber : Card → ℕ
 verdictNumber c = numberIn (verdictOn (c .kind) (c .body))
 
--- 2: a line for each card, with its place
-abbrev pub lineOf : (place : ℕ) → Kind → (verdict : ℕ) → List ℕ
-lineOf place kind verdict = joined (text "card" ∷ count place ∷ kindWord kind ∷ count verdict ∷ text "\n" ∷ [])
+-- The listing 2: a line for each card, with its place
+abbrev pub placedLine : (place : ℕ) → Kind → (verdict : ℕ) → List ℕ
+placedLine place kind verdict = joined (text "card" ∷ count place ∷ kindWord kind ∷ count verdict ∷ text "\n" ∷ [])
 
 abbrev pub cardLine : (place : ℕ) → Card → List ℕ
-cardLine place c = lineOf place (c .kind) (verdictNumber c)
+cardLine place c = placedLine place (c .kind) (verdictNumber c)
 
 unfoldable pub cardLines : (place : ℕ) → List Card → List ℕ
 cardLines place [] = []
 cardLines place (c ∷ cards) = cardLine place c ++ cardLines (place + 1) cards
 
--- an accepted deck's cards, counted, with their verdicts' numbers in the first places of a list
-pub record Judged (deck list : List ℕ) (count : ℕ) : Type 0 where
-  pub cards : List Card
-  pub cards-are : cardsOf deck ≡ pass cards
-  pub as-many : length cards ≡ count
-  pub behind : List ℕ
-  pub numbers : list ≡ map numberIn (verdictsOf cards) ++ behind
-
--- 3: the three totals
+-- The listing 3: the three totals
 abbrev pub totalsLine : Totals → List ℕ
 totalsLine n = joined (text "solved" ∷ count (n .solved) ∷ text " refused" ∷ count (n .refused) ∷ text " rejected" ∷ count (n .rejected) ∷ text "\n" ∷ [])
 
--- 4: mean and worst, or that there is neither
+-- The listing 4: mean and worst, or that there is neither
 abbrev pub residualLines : Residuals → List ℕ
 residualLines absent = text "mean none\nworst none\n"
 residualLines (known mean worst) = joined (text "mean" ∷ number mean ∷ text "\nworst" ∷ number worst ∷ text "\n" ∷ [])
 
--- 2 to 4: an accepted deck
+-- The listing 2 to 4: an accepted deck
 abbrev pub acceptedLines : List Card → List ℕ
 acceptedLines cards =
     let tally = tallyOf (verdictsOf cards) in
     joined (cardLines 1 cards ∷ totalsLine (tally .0) ∷ residualLines (tally .1) ∷ [])
 
--- 5: a refused deck
+-- The listing 5: a refused deck
 abbrev pub refusedLine : ℕ → List ℕ
 refusedLine k = joined (text "deck" ∷ count k ∷ text "\n" ∷ [])
 

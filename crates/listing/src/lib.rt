@@ -17,6 +17,7 @@ ghost use Rattle.card.specs.Fields.{Card};
 ghost use Rattle.deck.specs.Contents.{cardsOf};
 ghost use Rattle.deck.specs.Said.{told};
 ghost use Rattle.listing.specs.Listing as listing;
+ghost use Rattle.listing.specs.Judged.{Judged};
 
 // The bytes of the longest listing, and the most cards.
 pub const ROOM: usize = 5087;
@@ -60,7 +61,7 @@ fn refused(number: u32, page: &mut [u8]) -> usize
 
 // A line for each card of an accepted deck, which has no card without a kind.
 fn cards(deck: &[u8], verdicts: &[u32], count: u32, page: &mut [u8]) -> usize
-    requires { ⌜ listing.Judged (now deck) (now verdicts) count ⌝ }
+    requires { ⌜ Judged (now deck) (now verdicts) count ⌝ }
     ensures { λ r. ⌜ ((cards : List Card) → cardsOf (now (deck .entry)) ≡ pass cards → Put (now (page .entry)) 0 (listing.cardLines 1 cards) (now (page .exit)) r) ⌝ }
 {
     let mut i = 0u32;
@@ -78,7 +79,7 @@ fn cards(deck: &[u8], verdicts: &[u32], count: u32, page: &mut [u8]) -> usize
 
 // `card PLACE KIND VERDICT`.
 fn card_line(place: u32, kind: Kind, verdict: u32, page: &mut [u8], at: usize) -> usize
-    ensures { λ r. ⌜ Put (now (page .entry)) at (listing.lineOf place kind verdict) (now (page .exit)) r ⌝ }
+    ensures { λ r. ⌜ Put (now (page .entry)) at (listing.placedLine place kind verdict) (now (page .exit)) r ⌝ }
 {
     let mut end = text::put(page, at, b"card");
     end = text::count(page, end, place);

@@ -7,7 +7,7 @@ use line::Question;
 ghost use mathlib.Core.Path.{_≡_};
 ghost use Prim.Native.Nat.{_≤_};
 ghost use lib.ListN.{length};
-ghost use Rattle.lines.specs.Lines.{linesOf, mostBlock, longestText};
+ghost use Rattle.lines.specs.Lines.{linesOf, mostBlock, mostText};
 
 // The most blocks that are read: more than can come.
 const BLOCKS: u64 = 0xffff_ffff_ffff_ffff;
@@ -29,9 +29,9 @@ pub fn list(asked: Question) {
 }
 
 // Reads one block into space and writes its lines, which are made on the page. Answers whether the
-// input may go on.
+// input may go on. A space too short for a block would end the program after the first one.
 fn block(asked: Question, space: &mut [u8], page: &mut [u8]) -> bool
-    requires { ⌜ (mostBlock ≤ length (now space)) × (longestText ≤ length (now page)) ⌝ }
+    requires { ⌜ (mostBlock ≤ length (now space)) × (mostText ≤ length (now page)) ⌝ }
 {
     let size = lines::block(asked);
     let got = stdio::read(space, size);

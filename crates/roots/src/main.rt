@@ -1,5 +1,5 @@
-// Takes roots: reads binary64 words, eight bytes each, and writes a line for each. What the lines
-// are, `lines` says.
+// Takes roots: reads binary64 words, eight bytes each, and writes a line for each. What a line
+// is, `line` says.
 use line::Question;
 
 fn main() {

@@ -63,7 +63,7 @@ length-self (suc k) n = go (digits k n) (length-self k (n / 10))
 -- ---- hex digits, numbers and counts
 
 -- exactly as many as were asked for
-pub length-hex : (k n : ℕ) → length (hex k n) ≡ k
+length-hex : (k n : ℕ) → length (hex k n) ≡ k
 unfolding hex
 length-hex zero n = refl
 length-hex (suc k) n = length-append (hex k (n / 16)) _ ∙ add-one _ ∙ ap suc (length-hex k (n / 16))

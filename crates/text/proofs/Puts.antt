@@ -2,7 +2,7 @@
 use mathlib.Core.Path.{_≡_, refl, sym, ap, _∙_, subst}
 use mathlib.Core.Bool.{Bool, true, false, cond}
 use mathlib.Core.List.{List, [], _∷_, _++_, append-nil}
-use Prim.Native.Nat.{ℕ, zero, suc, _+_, _-_, _≤_, _<_, min}
+use Prim.Native.Nat.{ℕ, suc, _+_, _-_, _≤_, _<_, min}
 use native.Mathlib.Nat.{suc-add, add-suc, add-zero, zero-add, min-eq-left}
 use native.Mathlib.Numerals.{add-one}
 use native.Mathlib.Omega.{arith}
@@ -12,7 +12,7 @@ use lib.ListN.{length, take, drop, set, getD, length-append, length-set, take-ap
 use lib.Seq.{sets, length-sets, sets-eq, set-out, take-suc, take-length, length-take-le, take-append-seam, drop-cons, drop-set-lt, getD-set-same}
 use Rattle.text.specs.Text.{joined, putIn, endIn, Put, handedIn}
 
-pub sets-append : (l : List ℕ) (at : ℕ) (s t : List ℕ) → sets l at (s ++ t) ≡ sets (sets l at s) (at + length s) t
+sets-append : (l : List ℕ) (at : ℕ) (s t : List ℕ) → sets l at (s ++ t) ≡ sets (sets l at s) (at + length s) t
 sets-append l at [] t = ap (λ (k : ℕ). sets l k t) (sym (add-zero at))
 sets-append l at (b ∷ s) t =
     sets-append (set l at b) (suc at) s t
@@ -85,8 +85,8 @@ in-room : (whole buffer : List ℕ) → length whole ≤ length buffer → hande
 in-room whole buffer h = ap (λ (b : Bool). cond b (whole ++ drop (length whole) buffer) buffer) (le-leb (length whole) (length buffer) h)
 
 -- and is written so from the first byte on
-pub room : (whole buffer : List ℕ) → length whole ≤ length buffer → sets buffer 0 whole ≡ handedIn whole buffer
-room whole buffer h =
+pub written-is-handed : (whole buffer : List ℕ) → length whole ≤ length buffer → sets buffer 0 whole ≡ handedIn whole buffer
+written-is-handed whole buffer h =
     let at-front : 0 + length whole ≤ length buffer = omega arith in
     sets-eq whole buffer 0 at-front
     ∙ ap (λ (k : ℕ). whole ++ drop k buffer) (zero-add (length whole))
@@ -114,7 +114,12 @@ front {before} {after} {whole} {end} p h =
 
 pub handed : {before after whole : List ℕ} {end : ℕ} → Put before 0 whole after end → length whole ≤ length before → (end ≡ length whole) × (after ≡ handedIn whole before)
 unfolding putIn
-handed {before} {after} {whole} {end} p h = (front p h .0, p .holds ∙ room whole before h)
+handed {before} {after} {whole} {end} p h = (front p h .0, p .holds ∙ written-is-handed whole before h)
+
+-- a page whose front is a text, handed on: the text is
+pub handed-on : (buffer : List ℕ) {before after whole held : List ℕ} {end n : ℕ} → Put before 0 whole after end → length whole ≤ length before
+    → (n ≡ length (take end after)) × (held ≡ handedIn (take end after) buffer) → (n ≡ length whole) × (held ≡ handedIn whole buffer)
+handed-on buffer p h q = let whole-is = front p h .1 in (q .0 ∙ ap length whole-is, q .1 ∙ ap (λ (l : List ℕ). handedIn l buffer) whole-is)
 
 -- one byte more of a copy
 pub one-more : (l : List ℕ) (at : ℕ) (s : List ℕ) (i : ℕ) → i < length s → set (sets l at (take i s)) (at + i) (getD s i 0) ≡ sets l at (take (i + 1) s)
@@ -149,16 +154,12 @@ as-far l at s h = go (leb (length s) (length l - at)) refl
         }
 
 -- a digit set in front of those that stand
-pub in-front : (digits : List ℕ) (left d : ℕ) → 0 < left → left ≤ length digits → drop (left - 1) (set digits (left - 1) d) ≡ d ∷ drop left digits
-in-front digits left d h k =
+pub digit-before : (digits : List ℕ) (left d : ℕ) → 0 < left → left ≤ length digits → drop (left - 1) (set digits (left - 1) d) ≡ d ∷ drop left digits
+digit-before digits left d h k =
     let inside : left - 1 < length digits = omega arith in
     let next : suc (left - 1) ≡ left = omega arith in
     drop-cons (set digits (left - 1) d) (left - 1) 0 (rw (length-set digits (left - 1) d) inside)
     ∙ rw (getD-set-same digits (left - 1) d 0 inside, next, drop-set-lt left digits (left - 1) d (omega arith))
-
--- the same of the two equations
-pub same-piece : (buffer : List ℕ) (at : ℕ) {piece other after : List ℕ} {end : ℕ} → piece ≡ other → (end ≡ endIn buffer at piece) × (after ≡ putIn buffer at piece) → (end ≡ endIn buffer at other) × (after ≡ putIn buffer at other)
-same-piece buffer at e p = (p .0 ∙ ap (endIn buffer at) e, p .1 ∙ ap (putIn buffer at) e)
 
 -- a writer's two equations are one piece written, and a piece written is two equations
 pub wrote : {before after piece : List ℕ} {at end : ℕ} → (end ≡ endIn before at piece) × (after ≡ putIn before at piece) → Put before at piece after end

@@ -30,14 +30,14 @@ unfoldable pub decimal : (k n : ℕ) → List ℕ
 decimal zero n = []
 decimal (suc k) n = cond (ltb n 10) [] (decimal k (n / 10)) ++ (digit (n % 10) ∷ [])
 
+-- Text 2: a count, which has at most ten digits
+abbrev pub count : ℕ → List ℕ
+count n = 32 ∷ decimal 10 n
+
 -- Text 3: the last k hex digits of n
 unfoldable pub hex : (k n : ℕ) → List ℕ
 hex zero n = []
 hex (suc k) n = hex k (n / 16) ++ (digit (n % 16) ∷ [])
-
--- Text 2: a count, which has at most ten digits
-abbrev pub count : ℕ → List ℕ
-count n = 32 ∷ decimal 10 n
 
 -- Text 3: a number, as its word
 abbrev pub worded : ℕ → List ℕ

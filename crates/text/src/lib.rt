@@ -1,7 +1,7 @@
 // Text made in a lent buffer: words, counts and numbers one behind the other, and a whole text
 // handed over. docs/RULES.md, Text.
 //
-// Every function here is proved and total, and the crate assumes nothing.
+// Every function here is proved, the public ones are total, and the crate assumes nothing.
 ghost use mathlib.Core.Path.{_≡_};
 ghost use Prim.Native.Nat.{_+_, _≤_, _<_, min};
 ghost use lib.ListN.{length, take};
@@ -44,7 +44,7 @@ pub fn number(out: &mut [u8], at: usize, x: f64) -> usize
     ensures { λ r. ⌜ r ≡ text.endIn (now (out .entry)) at (text.number x) ⌝ }
     ensures { λ r. ⌜ now (out .exit) ≡ text.putIn (now (out .entry)) at (text.number x) ⌝ }
 {
-    let digits = hex(exact::word(x));
+    let digits = worded(exact::word(x));
     put(out, at, &digits)
 }
 
@@ -72,7 +72,7 @@ fn copy(out: &mut [u8], at: usize, s: &[u8], n: usize)
 }
 
 // A space, and the 16 hex digits of w, from the last one on.
-fn hex(w: u64) -> [u8; 17]
+fn worded(w: u64) -> [u8; 17]
     ensures { λ r. ⌜ r ≡ text.worded w ⌝ }
 {
     let mut digits = [32u8; 17];

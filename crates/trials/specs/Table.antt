@@ -1,4 +1,4 @@
--- The trials that RULES, Trials, marks P, in its order, and deck A: one table, a line a trial. Definitions only.
+-- The trials that RULES, Trials, marks P, in its order: one table, a line a trial. Definitions only.
 use mathlib.Core.Path.{_≡_}
 use mathlib.Core.List.{List, [], _∷_}
 use Prim.Native.Nat.{ℕ}
@@ -73,7 +73,7 @@ diagonal = vector one one nought
 abbrev across : Float → Vector
 across y = vector nought y nought
 
--- deck A: version 1 and three cards, the first solved, the second refused with 7, the third the first with another position
+-- deck A, as under The check program's listing: version 1 and three cards, the first solved, the second refused with 7, the third the first with another position
 abbrev entry : (number offset size : ℕ) → List ℕ
 entry number offset size = joined (bytesOf 4 number ∷ bytesOf 4 offset ∷ bytesOf 4 size ∷ [])
 

@@ -27,18 +27,33 @@ theta-of bytes = refl
 
 returns : tie.Need-returns
 returns c =
-    let root = ap rootLine (c .before .before .before .before .root .ensures ∙ ap rootOf (c .before .before .before .before .before .number .ensures)) in
-    rw (c .before .before .before .before .before .before .enum-told .given .1) (both (renamed (root ∙ sym (root-of (c .before .before .before .before .before .before .before .before .before .before .args .s .now))) (c .before .before .root-line .ensures)))
+    let at1 = c .before .before in
+    let at2 = at1 .before .before in
+    let at3 = at2 .before in
+    let at4 = at3 .before in
+    let at5 = at4 .before .before .before .before in
+    let root = ap rootLine (at2 .root .ensures ∙ ap rootOf (at3 .number .ensures)) in
+    rw (at4 .enum-told .given .1) (both (renamed (root ∙ sym (root-of (at5 .args .s .now))) (at1 .root-line .ensures)))
 
 returns-2 : tie.Need-returns-2
 returns-2 c =
-    let state = ap outcomeLine (c .before .before .before .before .kepler .ensures ∙ ap keplerOf (c .before .before .before .before .before .problem .ensures)) in
-    rw (c .before .before .before .before .before .before .enum-told2 .given .1) (both (renamed (state ∙ sym (kepler-of (c .before .before .before .before .before .before .before .before .before .before .args .s .now))) (c .before .before .outcome-line .ensures)))
+    let at1 = c .before .before in
+    let at2 = at1 .before .before in
+    let at3 = at2 .before in
+    let at4 = at3 .before in
+    let at5 = at4 .before .before .before .before in
+    let state = ap outcomeLine (at2 .kepler .ensures ∙ ap keplerOf (at3 .problem .ensures)) in
+    rw (at4 .enum-told2 .given .1) (both (renamed (state ∙ sym (kepler-of (at5 .args .s .now))) (at1 .outcome-line .ensures)))
 
 returns-3 : tie.Need-returns-3
 returns-3 c =
-    let state = ap outcomeLine (c .before .before .before .before .turned .ensures ∙ ap turned (c .before .before .before .before .before .problem2 .ensures)) in
-    rw (c .before .before .before .before .before .before .enum-told3 .given .1) (both (renamed (state ∙ sym (theta-of (c .before .before .before .before .before .before .before .before .before .before .args .s .now))) (c .before .before .outcome-line2 .ensures)))
+    let at1 = c .before .before in
+    let at2 = at1 .before .before in
+    let at3 = at2 .before in
+    let at4 = at3 .before in
+    let at5 = at4 .before .before .before .before in
+    let state = ap outcomeLine (at2 .turned .ensures ∙ ap turned (at3 .problem2 .ensures)) in
+    rw (at4 .enum-told3 .given .1) (both (renamed (state ∙ sym (theta-of (at5 .args .s .now))) (at1 .outcome-line2 .ensures)))
 
 pub line-spec : {M : Type 1} → statement M
 line-spec =

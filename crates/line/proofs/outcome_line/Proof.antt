@@ -6,27 +6,44 @@ use Rattle.line.proofs.outcome_line.Tie as tie
 
 returns : tie.Need-returns
 returns c =
-    rw (c .before .before .before .before .before .before .before .before .before .before .before .before .before .before .before .before .before .before .before .before .before .before .before .before .before .before .before .outcome .given .1)
-    (puts (wrote (c .before .before .before .before .before .before .before .before .before .before .before .before .before .before .before .before .before .before .before .before .before .before .before .put .ensures))
-    (puts (wrote (c .before .before .before .before .before .before .before .before .before .before .before .before .before .before .before .before .before .before .before .count .ensures))
-    (puts (wrote (c .before .before .before .before .before .before .before .before .before .before .before .before .before .before .before .number .ensures))
-    (puts (c .before .before .before .before .before .before .before .before .before .before .before .vector .ensures)
-    (puts (c .before .before .before .before .before .before .before .vector2 .ensures)
-    (last (wrote (c .before .before .put2 .ensures))))))))
+    let at1 = c .before .before in
+    let at2 = at1 .before .before .before .before .before in
+    let at3 = at2 .before .before .before .before in
+    let at4 = at3 .before .before .before .before in
+    let at5 = at4 .before .before .before .before in
+    let at6 = at5 .before .before .before .before in
+    let at7 = at6 .before .before .before .before in
+    rw (at7 .outcome .given .1)
+    (puts (wrote (at6 .put .ensures))
+    (puts (wrote (at5 .count .ensures))
+    (puts (wrote (at4 .number .ensures))
+    (puts (at3 .vector .ensures)
+    (puts (at2 .vector2 .ensures)
+    (last (wrote (at1 .put2 .ensures))))))))
 
 returns-2 : tie.Need-returns-2
 returns-2 c =
-    rw (c .before .before .before .before .before .before .before .before .before .before .before .outcome2 .given .1, ← c .before .before .before .before .before .before .before .before .before .number2 .ensures)
-    (puts (c .before .before .before .before .before .before .before .refusal .ensures)
-    (last (wrote (c .before .before .put3 .ensures))))
+    let at1 = c .before .before in
+    let at2 = at1 .before .before .before .before .before in
+    let at3 = at2 .before .before in
+    let at4 = at3 .before .before in
+    rw (at4 .outcome2 .given .1, ← at3 .number2 .ensures)
+    (puts (at2 .refusal .ensures)
+    (last (wrote (at1 .put3 .ensures))))
 
 returns-3 : tie.Need-returns-3
 returns-3 c =
-    rw (c .before .before .before .before .before .before .before .before .before .before .before .before .before .before .before .before .before .before .before .outcome3 .given .1, ← c .before .before .before .before .before .before .before .before .before .before .before .before .before .before .before .before .before .number3 .ensures)
-    (puts (c .before .before .before .before .before .before .before .before .before .before .before .before .before .before .before .refusal2 .ensures)
-    (puts (wrote (c .before .before .before .before .before .before .before .before .before .before .before .number4 .ensures))
-    (puts (wrote (c .before .before .before .before .before .before .before .number5 .ensures))
-    (last (wrote (c .before .before .put4 .ensures))))))
+    let at1 = c .before .before in
+    let at2 = at1 .before .before .before .before .before in
+    let at3 = at2 .before .before .before .before in
+    let at4 = at3 .before .before .before .before in
+    let at5 = at4 .before .before in
+    let at6 = at5 .before .before in
+    rw (at6 .outcome3 .given .1, ← at5 .number3 .ensures)
+    (puts (at4 .refusal2 .ensures)
+    (puts (wrote (at3 .number4 .ensures))
+    (puts (wrote (at2 .number5 .ensures))
+    (last (wrote (at1 .put4 .ensures))))))
 
 pub outcome-line-spec : {M : Type 1} → statement M
 outcome-line-spec =

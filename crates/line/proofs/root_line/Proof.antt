@@ -13,10 +13,15 @@ returns c =
 
 returns-2 : tie.Need-returns-2
 returns-2 c =
-    rw (c .before .before .before .before .before .before .before .before .before .before .before .before .before .before .before .before .answer2 .given .1, ← c .before .before .before .before .before .before .before .before .number2 .ensures)
-    (puts (wrote (c .before .before .before .before .before .before .before .before .before .before .before .before .put3 .ensures))
-    (puts (wrote (c .before .before .before .before .before .before .before .count .ensures))
-    (last (wrote (c .before .before .put4 .ensures)))))
+    let at1 = c .before .before in
+    let at2 = at1 .before .before .before .before .before in
+    let at3 = at2 .before in
+    let at4 = at3 .before .before .before .before in
+    let at5 = at4 .before .before .before .before in
+    rw (at5 .answer2 .given .1, ← at3 .number2 .ensures)
+    (puts (wrote (at4 .put3 .ensures))
+    (puts (wrote (at2 .count .ensures))
+    (last (wrote (at1 .put4 .ensures)))))
 
 pub root-line-spec : {M : Type 1} → statement M
 root-line-spec =

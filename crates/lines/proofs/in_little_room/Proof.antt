@@ -1,11 +1,7 @@
 -- `lines::in_little_room` meets its contract: the page has room for the lines of a block, and its front is handed over.
-use mathlib.Core.Path.{sym, ap, _∙_}
-use mathlib.Core.List.{List}
-use Prim.Native.Nat.{ℕ}
-use lib.ListN.{length}
+use mathlib.Core.Path.{sym}
 use lib.Seq.{length-take-le}
-use Rattle.text.specs.Text.{handedIn}
-use Rattle.text.proofs.Puts.{inside, front}
+use Rattle.text.proofs.Puts.{inside, handed-on}
 use Rattle.lines.proofs.Records.{text-most}
 use borrow.Author.Needs.{needs}
 use Rattle.lines.proofs.in_little_room.Statement.{statement}
@@ -20,8 +16,8 @@ slice-aggregate-hand c = sym (length-take-le (c .before .before .write .result) 
 returns : tie.Need-returns
 returns c =
     let start = c .before .before .before .before .before .before .before .before .before .before in
-    let made = front (c .before .before .before .before .before .before .write .ensures) (text-most (start .args .asked) (start .args .s .now) (start .pre)) .1 in
-    (c .before .before .hand .ensures .0 ∙ ap length made, c .before .before .hand .ensures .1 ∙ ap (λ (l : List ℕ). handedIn l (start .args .out .now)) made)
+    let fits = text-most (start .args .asked) (start .args .s .now) (start .pre) in
+    handed-on (start .args .out .now) (c .before .before .before .before .before .before .write .ensures) fits (c .before .before .hand .ensures)
 
 pub in-little-room-spec : {M : Type 1} → statement M
 in-little-room-spec =

@@ -1,7 +1,7 @@
--- `lines::lines` meets its contract.
+-- `lines::lines` meets its contract: what is answered is the first block, and where there is little room the lines are handed over.
 use mathlib.Core.Path.{_≡_, sym, ap, _∙_}
 use mathlib.Core.List.{List}
-use Prim.Native.Nat.{ℕ, _≤_, min}
+use Prim.Native.Nat.{ℕ, _≤_}
 use native.Mathlib.Nat.{le-trans}
 use native.Mathlib.Omega.{arith}
 use lib.ListN.{length, take, length-take}
@@ -9,53 +9,48 @@ use lib.Seq.{length-take-le}
 use Rattle.text.specs.Text.{handedIn}
 use Rattle.text.proofs.Puts.{renamed, handed}
 use Rattle.line.specs.declared.Question.{Question}
-use Rattle.lines.specs.Lines.{linesOf, blockBytes, blockOf, longestText}
+use Rattle.lines.specs.Lines.{linesOf, blockBytes, blockOf, mostText}
 use Rattle.lines.proofs.Records.{first-block, text-most}
 use borrow.Author.Needs.{needs}
 use Rattle.lines.proofs.lines.Statement.{statement}
 use Rattle.lines.proofs.lines.Tie as tie
 
--- the bytes that are answered, and how many they are
-cut : (b : ℕ) (s : List ℕ) {n : ℕ} → n ≡ min b (length s) → n ≡ length (take n s)
-cut b s {n} e = sym (length-take-le n s (omega arith))
+-- as many bytes are answered as are cut off, and no more than a block
+cut : (c : tie.After-first) → c .first .result ≡ length (take (c .first .result) (c .before .before .before .args .s .now))
+cut c = sym (length-take-le (c .first .result) (c .before .before .before .args .s .now) (omega (arith, c .first .ensures)))
 
-short : (b : ℕ) (s : List ℕ) {n : ℕ} → n ≡ min b (length s) → length (take n s) ≤ b
-short b s e = omega (arith, cut b s e)
+short : (c : tie.After-first) → length (take (c .first .result) (c .before .before .before .args .s .now)) ≤ blockBytes (c .before .before .before .args .asked)
+short c = omega (arith, c .first .ensures, cut c)
 
-fits : (asked : Question) (s out : List ℕ) → longestText ≤ length out → length (linesOf asked (blockOf asked s)) ≤ length out
+-- their lines are the block's, for which there is room
+same-lines : (c : tie.After-first) → linesOf (c .before .before .before .args .asked) (take (c .first .result) (c .before .before .before .args .s .now)) ≡ linesOf (c .before .before .before .args .asked) (blockOf (c .before .before .before .args .asked) (c .before .before .before .args .s .now))
+same-lines c = let args = c .before .before .before .args in ap (linesOf (args .asked)) (first-block (blockBytes (args .asked)) (args .s .now) (c .first .ensures))
+
+fits : (asked : Question) (s out : List ℕ) → mostText ≤ length out → length (linesOf asked (blockOf asked s)) ≤ length out
 fits asked s out h = le-trans (text-most asked (blockOf asked s) (rw (length-take (blockBytes asked) s) (omega arith))) h
-
-slice-aggregate-in-little-room : tie.Need-slice-aggregate-in-little-room
-slice-aggregate-in-little-room c = cut (blockBytes (c .before .before .before .before .before .args .asked)) (c .before .before .before .before .before .args .s .now) (c .before .before .first .ensures)
-
-in-little-room-requires : tie.Need-in-little-room-requires
-in-little-room-requires c κs = short (blockBytes (c .before .before .before .before .before .before .args .asked)) (c .before .before .before .before .before .before .args .s .now) (c .before .before .before .first .ensures)
 
 returns : tie.Need-returns
 returns c =
-    let block = first-block (blockBytes (c .before .before .before .before .before .before .before .before .before .args .asked)) (c .before .before .before .before .before .before .before .before .before .args .s .now) (c .before .before .before .before .before .before .first .ensures) in
-    let same = ap (linesOf (c .before .before .before .before .before .before .before .before .before .args .asked)) block in
-    (c .before .before .in-little-room .ensures .0 ∙ ap length same, c .before .before .in-little-room .ensures .1 ∙ ap (λ (l : List ℕ). handedIn l (c .before .before .before .before .before .before .before .before .before .args .out .now)) same)
-
-slice-aggregate-write : tie.Need-slice-aggregate-write
-slice-aggregate-write c = cut (blockBytes (c .before .before .before .before .before .args .asked)) (c .before .before .before .before .before .args .s .now) (c .before .before .first .ensures)
+    let cut-off = c .before .before .before .before .before .before in
+    let made = c .before .before .in-little-room .ensures in
+    (made .0 ∙ ap length (same-lines cut-off), made .1 ∙ ap (λ (l : List ℕ). handedIn l (cut-off .before .before .before .args .out .now)) (same-lines cut-off))
 
 returns-2 : tie.Need-returns-2
 returns-2 c =
-    let block = first-block (blockBytes (c .before .before .before .before .before .before .before .before .before .args .asked)) (c .before .before .before .before .before .before .before .before .before .args .s .now) (c .before .before .before .before .before .before .first .ensures) in
-    let same = ap (linesOf (c .before .before .before .before .before .before .before .before .before .args .asked)) block in
-    handed (renamed same (c .before .before .write .ensures)) (fits (c .before .before .before .before .before .before .before .before .before .args .asked) (c .before .before .before .before .before .before .before .before .before .args .s .now) (c .before .before .before .before .before .before .before .before .before .args .out .now) (omega arith))
+    let cut-off = c .before .before .before .before .before .before in
+    let args = cut-off .before .before .before .args in
+    handed (renamed (same-lines cut-off) (c .before .before .write .ensures)) (fits (args .asked) (args .s .now) (args .out .now) (omega arith))
 
 pub lines-spec : {M : Type 1} → statement M
 lines-spec =
     tie.close
     (tie.spec
     (λ c κs. search needs)
-    slice-aggregate-in-little-room
-    in-little-room-requires
+    (λ c. cut (c .before .before))
+    (λ c κs. short (c .before .before .before))
     (λ c. search needs)
     returns
-    slice-aggregate-write
+    (λ c. cut (c .before .before))
     (λ c κs. search needs)
     (λ c. search needs)
     returns-2)

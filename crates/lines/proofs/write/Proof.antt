@@ -1,7 +1,7 @@
 -- `lines::write` meets its contract.
 use mathlib.Core.Path.{_≡_, refl, sym, ap, _∙_}
 use mathlib.Core.List.{List, [], _∷_, _++_, append-nil, append-assoc}
-use Prim.Native.Nat.{ℕ, zero, suc, _+_, _-_, _≤_, _<_}
+use Prim.Native.Nat.{ℕ, _+_, _-_, _≤_, _<_}
 use native.Mathlib.Omega.{arith}
 use borrow.Author.Needs.{needs}
 use lib.ListN.{length, take, drop, length-drop, drop-of-length-le}
@@ -94,15 +94,22 @@ line-requires : tie.Need-line-requires Inv-loop μ-loop
 line-requires c κs = tt
 
 loop-less : tie.Need-loop-less Inv-loop μ-loop
-loop-less c = omega (arith, c .before .before .before .before .before .before .before .width .ensures, width-least (c .before .before .before .before .before .before .before .before .before .before .args .asked))
+loop-less c =
+    let at1 = c .before .before .before .before .before .before .before in
+    let at2 = at1 .before .before .before in
+    omega (arith, at1 .width .ensures, width-least (at2 .args .asked))
 
 loop-again : tie.Need-loop-again Inv-loop μ-loop
 loop-again c =
-    let at : ℕ = c .before .before .before .before .before .before .loop .at in
-    let size : ℕ = c .before .before .before .before .before .before .before .width .result in
+    let at1 = c .before .before in
+    let at2 = at1 .before .before .before .before in
+    let at3 = at2 .before in
+    let at4 = at3 .before .before .before in
+    let at : ℕ = at2 .loop .at in
+    let size : ℕ = at3 .width .result in
     let long : at + size - at ≡ size = omega arith in
-    let named = ap (λ (k : ℕ). lineOf (c .before .before .before .before .before .before .before .before .before .before .args .asked) (take k (drop at (c .before .before .before .before .before .before .before .before .before .before .args .s .now)))) long in
-    turn (c .before .before .before .before .before .before .loop .inv) (c .before .before .before .before .before .before .before .width .ensures) (omega arith) (renamed named (wrote (c .before .before .line .ensures)))
+    let named = ap (λ (k : ℕ). lineOf (at4 .args .asked) (take k (drop at (at4 .args .s .now)))) long in
+    turn (at2 .loop .inv) (at3 .width .ensures) (omega arith) (renamed named (wrote (at1 .line .ensures)))
 
 slice-aggregate-put : tie.Need-slice-aggregate-put Inv-loop μ-loop
 slice-aggregate-put c = refl
@@ -114,7 +121,11 @@ same-length : tie.Need-same-length Inv-loop μ-loop
 same-length c = as-long (wrote (c .before .before .put .ensures)) ∙ as-long (c .before .before .before .before .before .before .before .loop .inv .written)
 
 returns : tie.Need-returns Inv-loop μ-loop
-returns c = over (c .before .before .before .before .before .before .before .loop .inv) (c .before .before .before .before .before .before .before .before .width .ensures) (omega arith) (omega arith) (wrote (c .before .before .put .ensures))
+returns c =
+    let at1 = c .before .before in
+    let at2 = at1 .before .before .before .before .before in
+    let at3 = at2 .before in
+    over (at2 .loop .inv) (at3 .width .ensures) (omega arith) (omega arith) (wrote (at1 .put .ensures))
 
 same-length-2 : tie.Need-same-length-2 Inv-loop μ-loop
 same-length-2 c = as-long (c .before .before .loop .inv .written)

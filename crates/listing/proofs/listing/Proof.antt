@@ -1,12 +1,8 @@
 -- `listing::listing` meets its contract: the page has room for any listing, so the part that is handed over is the listing.
-use mathlib.Core.Path.{sym, ap, _∙_}
-use mathlib.Core.List.{List}
-use Prim.Native.Nat.{ℕ}
+use mathlib.Core.Path.{sym}
 use borrow.Author.Needs.{needs}
-use lib.ListN.{length}
 use lib.Seq.{length-take-le}
-use Rattle.text.specs.Text.{handedIn}
-use Rattle.text.proofs.Puts.{inside, front}
+use Rattle.text.proofs.Puts.{inside, handed-on}
 use Rattle.listing.proofs.Longest.{longest}
 use Rattle.listing.proofs.listing.Statement.{statement}
 use Rattle.listing.proofs.listing.Tie as tie
@@ -19,9 +15,9 @@ slice-aggregate-hand c = sym (length-take-le (c .before .before .write .result) 
 
 returns : tie.Need-returns
 returns c =
-    let w = c .before .before .before .before .before .before in
-    let whole = front (w .write .ensures) (longest (w .before .before .before .before .args .deck .now)) .1 in
-    (c .before .before .hand .ensures .0 ∙ ap length whole, c .before .before .hand .ensures .1 ∙ ap (λ (l : List ℕ). handedIn l (w .before .before .before .before .args .out .now)) whole)
+    let made = c .before .before .before .before .before .before in
+    let start = made .before .before .before .before in
+    handed-on (start .args .out .now) (made .write .ensures) (longest (start .args .deck .now)) (c .before .before .hand .ensures)
 
 pub listing-spec : {M : Type 1} → statement M
 listing-spec = tie.close (tie.spec (λ c. search needs) (λ c κs. search needs) array-share-prefix-page slice-aggregate-hand (λ c κs. search needs) (λ c. search needs) returns)

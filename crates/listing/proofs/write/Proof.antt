@@ -15,7 +15,8 @@ use Rattle.deck.specs.Tally.{Residuals}
 use Rattle.deck.specs.Said.{reasonNumber, told, said}
 use Rattle.deck.specs.Check.{listAfter}
 use Rattle.deck.proofs.Accepted.{Answered, answered, refused-contents}
-use Rattle.listing.specs.Listing.{cardLines, totalsLine, residualLines, refusedLine, linesFor, listingOf, Judged}
+use Rattle.listing.specs.Listing.{cardLines, totalsLine, residualLines, refusedLine, linesFor, listingOf}
+use Rattle.listing.specs.Judged.{Judged}
 use Rattle.listing.proofs.write.Statement.{statement}
 use Rattle.listing.proofs.write.Tie as tie
 

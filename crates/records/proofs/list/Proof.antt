@@ -1,6 +1,6 @@
 -- `records::list` is safe and ends: it takes fewer blocks than a word can count, and space and page keep their lengths.
 use mathlib.Core.Path.{_≡_, refl, sym, _∙_}
-use Prim.Native.Nat.{ℕ, _-_}
+use Prim.Native.Nat.{_-_}
 use native.Mathlib.Omega.{arith}
 use lib.ListN.{length}
 use Rattle.records.proofs.list.Statement.{statement}

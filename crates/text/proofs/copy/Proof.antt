@@ -1,5 +1,5 @@
 -- `text::copy` meets its contract. The invariant: the first i bytes stand in their places.
-use mathlib.Core.Path.{_≡_, refl, sym, ap, _∙_}
+use mathlib.Core.Path.{_≡_, refl, ap, _∙_}
 use mathlib.Core.List.{List}
 use Prim.Native.Nat.{ℕ, _+_, _-_, _≤_}
 use native.Mathlib.Omega.{arith}
@@ -28,7 +28,10 @@ add-out : tie.Need-add-out Inv-loop μ-loop
 add-out c = omega arith
 
 slice-write-out : tie.Need-slice-write-out Inv-loop μ-loop
-slice-write-out c = omega (arith, as-long (c .before .before .before .args .out .now) (c .before .before .before .args .at) (take (c .before .before .loop .i) (c .before .before .before .args .s .now)) (c .before .before .loop .inv .1))
+slice-write-out c =
+    let at1 = c .before .before in
+    let at2 = at1 .before in
+    omega (arith, as-long (at2 .args .out .now) (at2 .args .at) (take (at1 .loop .i) (at2 .args .s .now)) (at1 .loop .inv .1))
 
 add-i : tie.Need-add-i Inv-loop μ-loop
 add-i c = omega arith
@@ -37,7 +40,10 @@ loop-less : tie.Need-loop-less Inv-loop μ-loop
 loop-less c = omega arith
 
 loop-again : tie.Need-loop-again Inv-loop μ-loop
-loop-again c = (omega arith, ap (λ (l : List ℕ). set l (c .before .before .before .args .at + c .before .before .loop .i) (getD (c .before .before .before .args .s .now) (c .before .before .loop .i) 0)) (c .before .before .loop .inv .1) ∙ one-more (c .before .before .before .args .out .now) (c .before .before .before .args .at) (c .before .before .before .args .s .now) (c .before .before .loop .i) (omega arith))
+loop-again c =
+    let at1 = c .before .before in
+    let at2 = at1 .before in
+    (omega arith, ap (λ (l : List ℕ). set l (at2 .args .at + at1 .loop .i) (getD (at2 .args .s .now) (at1 .loop .i) 0)) (at1 .loop .inv .1) ∙ one-more (at2 .args .out .now) (at2 .args .at) (at2 .args .s .now) (at1 .loop .i) (omega arith))
 
 same-length : tie.Need-same-length Inv-loop μ-loop
 same-length c = as-long (c .before .before .args .out .now) (c .before .before .args .at) (take (c .before .loop .i) (c .before .before .args .s .now)) (c .before .loop .inv .1)

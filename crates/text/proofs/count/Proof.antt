@@ -11,7 +11,7 @@ use lib.Dec.{eqb, ltb}
 use lib.ListN.{length, take, drop, set, getD, replicate, length-set, length-drop, getD-replicate, List·getD-append}
 use lib.Seq.{append-snoc, take-all, drop-cons, getD-set-other}
 use Rattle.text.specs.Text.{digit, decimal, count}
-use Rattle.text.proofs.Puts.{in-front, same-piece}
+use Rattle.text.proofs.Puts.{digit-before, renamed, wrote, both}
 use Rattle.text.proofs.count.Statement.{statement}
 use Rattle.text.proofs.count.Tie as tie
 
@@ -83,7 +83,7 @@ turn {n} {left} {rest} {d} {digits} p h e =
           p .all
           ∙ ap (λ (l : List ℕ). l ++ drop left digits) split
           ∙ append-snoc (more (left - 1 - 1) (rest / 10)) d (drop left digits)
-          ∙ ap (λ (l : List ℕ). more (left - 1 - 1) (rest / 10) ++ l) (sym (in-front digits left d (omega arith) (omega (arith, p .long, p .most))));
+          ∙ ap (λ (l : List ℕ). more (left - 1 - 1) (rest / 10) ++ l) (sym (digit-before digits left d (omega arith) (omega (arith, p .long, p .most))));
     }
 
 finished : {n left rest : ℕ} {digits : List ℕ} → Spelt n digits left rest → rest ≤ 0 → drop (left - 1) digits ≡ count n
@@ -148,7 +148,7 @@ same-length : tie.Need-same-length Inv-loop μ-loop
 same-length c = search needs
 
 returns : tie.Need-returns Inv-loop μ-loop
-returns c = same-piece (c .before .before .before .before .before .before .before .before .before .before .args .out .now) (c .before .before .before .before .before .before .before .before .before .before .args .at) (part (c .before .before .before .before .before .before .before .loop .inv) (omega arith)) (c .before .before .put .ensures)
+returns c = both (renamed (part (c .before .before .before .before .before .before .before .loop .inv) (omega arith)) (wrote (c .before .before .put .ensures)))
 
 pub count-spec : {M : Type 1} → statement M
 count-spec = tie.close (tie.spec Inv-loop μ-loop digit-requires array-write-digits loop-holds sub-left digit-requires-2 array-write-digits-2 loop-less loop-again sub-first sub-put part-put-start part-put-end put-requires same-length returns)

@@ -1,5 +1,5 @@
 -- `text::digit` meets its contract: each of its sixteen lines is the definition's.
-use mathlib.Core.Path.{_≡_, refl, sym, ap}
+use mathlib.Core.Path.{_≡_, sym, ap}
 use Prim.Native.Nat.{ℕ, _+_, _≤_, _<_}
 use native.Mathlib.Omega.{arith}
 use Rattle.text.specs.Text as text

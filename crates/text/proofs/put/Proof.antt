@@ -24,7 +24,11 @@ returns : tie.Need-returns
 returns c = beyond (c .before .before .before .args .out .now) (c .before .before .before .args .at) (c .before .before .before .args .s .now) (omega arith)
 
 returns-2 : tie.Need-returns-2
-returns-2 c = within (c .before .before .before .before .before .before .before .before .args .out .now) (c .before .before .before .before .before .before .before .before .args .at) (c .before .before .before .before .before .before .before .before .args .s .now) (c .before .before .before .before .least .result) (omega arith) (c .before .before .before .before .least .ensures) (c .before .before .copy .ensures)
+returns-2 c =
+    let at1 = c .before .before in
+    let at2 = at1 .before .before in
+    let at3 = at2 .before .before .before .before in
+    within (at3 .args .out .now) (at3 .args .at) (at3 .args .s .now) (at2 .least .result) (omega arith) (at2 .least .ensures) (at1 .copy .ensures)
 
 pub put-spec : {M : Type 1} → statement M
 put-spec = tie.close (tie.spec returns (λ c. search needs) (λ c κs. search needs) (λ c κs. search needs) (λ c. search needs) (λ c. search needs) returns-2)

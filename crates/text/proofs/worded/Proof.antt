@@ -1,4 +1,4 @@
--- `text::hex` meets its contract. The invariant: the digits that are left to find, and those found, are the 16 of the word; the space stands.
+-- `text::worded` meets its contract. The invariant: the digits that are left to find, and those found, are the 16 of the word; the space stands.
 use mathlib.Core.Path.{_≡_, refl, sym, ap, _∙_}
 use mathlib.Core.List.{List, [], _∷_, _++_, append-nil}
 use Prim.Native.Nat.{ℕ, suc, _-_, _/_, _%_, _≤_, _<_}
@@ -6,9 +6,9 @@ use native.Mathlib.Omega.{arith}
 use lib.ListN.{length, take, drop, set, length-set, take-append-drop}
 use lib.Seq.{take-set-le, append-snoc}
 use Rattle.text.specs.Text.{digit, hex, worded}
-use Rattle.text.proofs.Puts.{in-front}
-use Rattle.text.proofs.hex.Statement.{statement}
-use Rattle.text.proofs.hex.Tie as tie
+use Rattle.text.proofs.Puts.{digit-before}
+use Rattle.text.proofs.worded.Statement.{statement}
+use Rattle.text.proofs.worded.Tie as tie
 
 one-digit : (k n : ℕ) → hex (suc k) n ≡ hex k (n / 16) ++ (digit (n % 16) ∷ [])
 unfolding hex
@@ -38,7 +38,7 @@ turn {w} {left} {rest} {d} {digits} p h e =
           p .all
           ∙ ap (λ (l : List ℕ). l ++ drop left digits) split
           ∙ append-snoc (hex (left - 1 - 1) (rest / 16)) d (drop left digits)
-          ∙ ap (λ (l : List ℕ). hex (left - 1 - 1) (rest / 16) ++ l) (sym (in-front digits left d (omega arith) (omega (arith, p .long, p .most))));
+          ∙ ap (λ (l : List ℕ). hex (left - 1 - 1) (rest / 16) ++ l) (sym (digit-before digits left d (omega arith) (omega (arith, p .long, p .most))));
     }
 
 finished : {w left rest : ℕ} {digits : List ℕ} → Found w digits left rest → left ≤ 1 → digits ≡ worded w
@@ -74,5 +74,5 @@ loop-again c = turn (c .before .before .loop .inv) (omega arith) (c .digit .ensu
 returns : tie.Need-returns Inv-loop μ-loop
 returns c = finished (c .before .loop .inv) (omega arith)
 
-pub hex-spec : {M : Type 1} → statement M
-hex-spec = tie.close (tie.spec Inv-loop μ-loop loop-holds sub-left digit-requires array-write-digits loop-less loop-again returns)
+pub worded-spec : {M : Type 1} → statement M
+worded-spec = tie.close (tie.spec Inv-loop μ-loop loop-holds sub-left digit-requires array-write-digits loop-less loop-again returns)
