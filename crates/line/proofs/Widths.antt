@@ -11,7 +11,7 @@ use Rattle.kepler.specs.Kepler.{keplerOf}
 use Rattle.card.specs.Fields.{numberAt, problemOf}
 use Rattle.line.specs.declared.Question.{Question}
 use Rattle.line.specs.declared.Question.the-variants as question
-use Rattle.line.specs.Line.{widthOf, rootLine, outcomeLine, turned, lineOf, mostLine}
+use Rattle.line.specs.Line.{widthOf, mostWidth, rootLine, outcomeLine, turned, lineOf, mostLine}
 
 -- the bytes of a record
 pub width-least : (asked : Question) → 8 ≤ widthOf asked
@@ -19,7 +19,7 @@ width-least question.Root = omega arith
 width-least question.Kepler = omega arith
 width-least question.Theta = omega arith
 
-pub width-most : (asked : Question) → widthOf asked ≤ 68
+pub width-most : (asked : Question) → widthOf asked ≤ mostWidth
 width-most question.Root = omega arith
 width-most question.Kepler = omega arith
 width-most question.Theta = omega arith

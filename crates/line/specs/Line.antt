@@ -46,6 +46,10 @@ lineOf question.Root bytes = rootLine (rootOf (numberAt bytes 0))
 lineOf question.Kepler bytes = outcomeLine (keplerOf (problemOf bytes))
 lineOf question.Theta bytes = outcomeLine (turned (problemOf bytes))
 
+-- no record has more bytes
+abbrev pub mostWidth : ℕ
+mostWidth = 68
+
 -- no line has more bytes
 abbrev pub mostLine : ℕ
 mostLine = 137

@@ -3,7 +3,7 @@ use mathlib.Core.Path.{_≡_, refl, sym, ap, _∙_}
 use mathlib.Core.Bool.{Bool, true, false}
 use mathlib.Core.List.{List, [], _∷_, _++_, append-assoc}
 use Prim.Native.Nat.{ℕ, zero, suc, _+_, _-_, _*_, _/_, _≤_, _<_, min}
-use native.Mathlib.Nat.{div-eq-sub-div, div-eq-of-lt, div-le-of-le-mul, zero-mul, suc-mul, mul-comm, le-trans, le-of-eq, min-eq-left}
+use native.Mathlib.Nat.{mul-le-mul-right, mul-div-le, div-eq-sub-div, div-eq-of-lt, div-le-of-le-mul, zero-mul, suc-mul, mul-comm, le-trans, le-of-eq, min-eq-left}
 use native.Mathlib.Numerals.{add-one}
 use native.Mathlib.Omega.{arith}
 use borrow.Author.Tests.{leb-true, leb-false}
@@ -15,11 +15,17 @@ use Rattle.text.proofs.Puts.{InFront, found}
 use Rattle.line.specs.declared.Question.{Question}
 use Rattle.line.specs.Line.{widthOf, lineOf, mostLine}
 use Rattle.line.proofs.Widths.{width-least, width-most, line-most}
-use Rattle.lines.specs.Lines.{leftOver, linesFrom, linesOf, blockRecords, blockBytes, mostBlock, blockOf, mostText}
+use Rattle.lines.specs.Lines.{leftOver, linesFrom, linesOf, blockRecords, blockBytes, mostBlock, mostBlocks, blockOf, mostText}
 
 -- the most bytes that a block has
 pub block-most : (asked : Question) → blockBytes asked ≤ mostBlock
 block-most asked = omega (arith, width-most asked)
+
+-- an input whose bytes a word counts has fewer blocks than the programs would read
+pub blocks-most : (asked : Question) (bytes : List ℕ) → length bytes ≤ mostBlocks → length bytes / blockBytes asked < mostBlocks
+blocks-most asked bytes h =
+    let many : 2 * (length bytes / blockBytes asked) ≤ length bytes = le-trans (mul-le-mul-right (length bytes / blockBytes asked) (omega (arith, width-least asked))) (mul-div-le (length bytes) (blockBytes asked)) in
+    omega (arith, h, many)
 
 width-some : (asked : Question) → 0 < widthOf asked
 width-some asked = omega (arith, width-least asked)

@@ -4,7 +4,7 @@ use mathlib.Core.List.{List, [], _∷_, _++_}
 use lib.ListN.{length, take, drop}
 use Rattle.text.specs.Text.{text}
 use Rattle.line.specs.declared.Question.{Question}
-use Rattle.line.specs.Line.{widthOf, lineOf, mostLine}
+use Rattle.line.specs.Line.{widthOf, lineOf, mostWidth, mostLine}
 
 -- Lines 4: what is left behind the last whole record: nothing, or a record that is cut off
 abbrev pub leftOver : List ℕ → List ℕ
@@ -29,7 +29,11 @@ blockBytes asked = blockRecords * widthOf asked
 
 -- the most bytes that a block has
 abbrev pub mostBlock : ℕ
-mostBlock = blockRecords * 68
+mostBlock = blockRecords * mostWidth
+
+-- no input has as many blocks, since a word counts its bytes
+abbrev pub mostBlocks : ℕ
+mostBlocks = 0xffff_ffff_ffff_ffff
 
 abbrev pub blockOf : Question → List ℕ → List ℕ
 blockOf asked bytes = take (blockBytes asked) bytes

@@ -7,9 +7,9 @@ use line::Question;
 ghost use mathlib.Core.Path.{_≡_};
 ghost use Prim.Native.Nat.{_≤_};
 ghost use lib.ListN.{length};
-ghost use Rattle.lines.specs.Lines.{linesOf, mostBlock, mostText};
+ghost use Rattle.lines.specs.Lines.{linesOf, mostBlock, mostBlocks, mostText};
 
-// The most blocks that are read: more than can come.
+// No input has as many blocks.
 const BLOCKS: u64 = 0xffff_ffff_ffff_ffff;
 
 // The bytes of a block of the longest records.
@@ -17,15 +17,24 @@ const SPACE: usize = 4352;
 
 // Answers standard input on standard output, until it ends or nothing more can be written.
 pub fn list(asked: Question) {
+    let most = bound(BLOCKS);
     let mut blocks = 0u64;
     let mut space = [0u8; SPACE];
     let mut page = [0u8; lines::ROOM];
-    while blocks < BLOCKS {
+    while blocks < most {
         if !block(asked, &mut space, &mut page) {
             return;
         }
         blocks += 1;
     }
+}
+
+// How many blocks are read: more than come.
+fn bound(most: u64) -> u64
+    requires { ⌜ most ≡ mostBlocks ⌝ }
+    ensures { λ r. ⌜ r ≡ mostBlocks ⌝ }
+{
+    most
 }
 
 // Reads one block into space and writes its lines, which are made on the page. Answers whether the

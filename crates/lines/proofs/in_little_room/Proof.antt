@@ -1,5 +1,7 @@
 -- `lines::in_little_room` meets its contract: the page has room for the lines of a block, and its front is handed over.
 use mathlib.Core.Path.{sym}
+use native.Mathlib.Nat.{le-trans}
+use lib.Dec.{lit≤}
 use lib.Seq.{length-take-le}
 use Rattle.text.proofs.Puts.{inside, handed-on}
 use Rattle.lines.proofs.Records.{text-most}
@@ -16,7 +18,7 @@ slice-aggregate-hand c = sym (length-take-le (c .before .before .write .result) 
 returns : tie.Need-returns
 returns c =
     let start = c .before .before .before .before .before .before .before .before .before .before in
-    let fits = text-most (start .args .asked) (start .args .s .now) (start .pre) in
+    let fits = le-trans (text-most (start .args .asked) (start .args .s .now) (start .pre)) (lit≤ tt) in
     handed-on (start .args .out .now) (c .before .before .before .before .before .before .write .ensures) fits (c .before .before .hand .ensures)
 
 pub in-little-room-spec : {M : Type 1} → statement M

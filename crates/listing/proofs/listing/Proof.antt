@@ -1,5 +1,7 @@
 -- `listing::listing` meets its contract: the page has room for any listing, so the part that is handed over is the listing.
 use mathlib.Core.Path.{sym}
+use native.Mathlib.Nat.{le-trans}
+use lib.Dec.{lit≤}
 use borrow.Author.Needs.{needs}
 use lib.Seq.{length-take-le}
 use Rattle.text.proofs.Puts.{inside, handed-on}
@@ -17,7 +19,7 @@ returns : tie.Need-returns
 returns c =
     let made = c .before .before .before .before .before .before in
     let start = made .before .before .before .before in
-    handed-on (start .args .out .now) (made .write .ensures) (longest (start .args .deck .now)) (c .before .before .hand .ensures)
+    handed-on (start .args .out .now) (made .write .ensures) (le-trans (longest (start .args .deck .now)) (lit≤ tt)) (c .before .before .hand .ensures)
 
 pub listing-spec : {M : Type 1} → statement M
 listing-spec = tie.close (tie.spec (λ c. search needs) (λ c κs. search needs) array-share-prefix-page slice-aggregate-hand (λ c κs. search needs) (λ c. search needs) returns)

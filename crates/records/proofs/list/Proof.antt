@@ -1,4 +1,4 @@
--- `records::list` is safe and ends: it takes fewer blocks than a word can count, and space and page keep their lengths.
+-- `records::list` is safe and ends: it takes no more blocks than its bound, and space and page keep their lengths.
 use mathlib.Core.Path.{_≡_, refl, sym, _∙_}
 use Prim.Native.Nat.{_-_}
 use native.Mathlib.Omega.{arith}
@@ -7,10 +7,10 @@ use Rattle.records.proofs.list.Statement.{statement}
 use Rattle.records.proofs.list.Tie as tie
 
 abbrev Inv-loop : tie.InvT-loop
-Inv-loop asked blocks₀ space₀ page₀ blocks space page = (length space ≡ length space₀) × (length page ≡ length page₀)
+Inv-loop asked most blocks₀ space₀ page₀ blocks space page = (length space ≡ length space₀) × (length page ≡ length page₀)
 
 abbrev μ-loop : tie.MeasureT-loop
-μ-loop asked blocks₀ space₀ page₀ blocks space page = 18446744073709551615 - blocks
+μ-loop asked most blocks₀ space₀ page₀ blocks space page = most - blocks
 
 loop-holds : tie.Need-loop-holds Inv-loop μ-loop
 loop-holds c = (refl, refl)
@@ -28,7 +28,7 @@ returns : tie.Need-returns Inv-loop μ-loop
 returns c = tt
 
 add-blocks : tie.Need-add-blocks Inv-loop μ-loop
-add-blocks c = omega arith
+add-blocks c = omega (arith, c .before .before .before .before .before .before .before .before .bound .ensures)
 
 loop-less : tie.Need-loop-less Inv-loop μ-loop
 loop-less c = omega arith
@@ -43,4 +43,4 @@ returns-2 : tie.Need-returns-2 Inv-loop μ-loop
 returns-2 c = tt
 
 pub list-spec : {M : Type 1} → statement M
-list-spec = tie.close (tie.spec Inv-loop μ-loop loop-holds slice-aggregate-block slice-aggregate-block-2 block-requires returns add-blocks loop-less loop-again returns-2)
+list-spec = tie.close (tie.spec Inv-loop μ-loop (λ c κs. refl) loop-holds slice-aggregate-block slice-aggregate-block-2 block-requires returns add-blocks loop-less loop-again returns-2)
