@@ -19,6 +19,7 @@ widthOf question.Root = 8
 widthOf question.Kepler = 68
 widthOf question.Theta = 64
 
+-- the three numbers of a vector
 abbrev pub vector : Vector → List ℕ
 vector a = joined (number (a .x) ∷ number (a .y) ∷ number (a .z) ∷ [])
 
@@ -27,6 +28,7 @@ abbrev pub rootLine : root.Said → List ℕ
 rootLine (root.root x) = joined (text "root" ∷ number x ∷ text "\n" ∷ [])
 rootLine (root.refused k) = joined (text "refused" ∷ count k ∷ text "\n" ∷ [])
 
+-- Lines 3: what every refused outcome's line begins with
 abbrev pub refusal : (k n : ℕ) → List ℕ
 refusal k n = joined (text "refused" ∷ count k ∷ count n ∷ [])
 

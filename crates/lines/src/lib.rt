@@ -6,7 +6,7 @@ ghost use mathlib.Core.Path.{_≡_};
 ghost use Prim.Native.Nat.{_≤_, min};
 ghost use lib.ListN.{length};
 ghost use Rattle.text.specs.Text.{Put, handedIn};
-ghost use Rattle.lines.specs.Lines.{linesOf, blockOf, blockBytes};
+ghost use Rattle.lines.specs.Lines.{linesOf, blockOf, blockBytes, mostText};
 
 // The records that are answered at a time, and the room that their lines take at most: 137 bytes
 // each, and `short` with its line end.
@@ -47,9 +47,16 @@ fn in_little_room(asked: Question, s: &[u8], out: &mut [u8]) -> usize
     ensures { λ r. ⌜ r ≡ length (linesOf asked (now (s .entry))) ⌝ }
     ensures { λ r. ⌜ now (out .exit) ≡ handedIn (linesOf asked (now (s .entry))) (now (out .entry)) ⌝ }
 {
-    let mut page = [0u8; ROOM];
+    let mut page = blank();
     let end = write(asked, s, &mut page);
     text::hand(&page[..end], out)
+}
+
+// A page with room for the lines of any block.
+fn blank() -> [u8; ROOM]
+    ensures { λ r. ⌜ mostText ≡ length r ⌝ }
+{
+    [0; ROOM]
 }
 
 // A line for each whole record of s, and `short` if there is more.

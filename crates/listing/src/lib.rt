@@ -29,9 +29,16 @@ pub fn listing(deck: &[u8], out: &mut [u8]) -> usize
     ensures { λ r. ⌜ r ≡ length (listing.listingOf (now (deck .entry))) ⌝ }
     ensures { λ r. ⌜ now (out .exit) ≡ handedIn (listing.listingOf (now (deck .entry))) (now (out .entry)) ⌝ }
 {
-    let mut page = [0u8; ROOM];
+    let mut page = blank();
     let end = write(deck, &mut page);
     text::hand(&page[..end], out)
+}
+
+// A page with room for any listing.
+fn blank() -> [u8; ROOM]
+    ensures { λ r. ⌜ listing.longestListing ≡ length r ⌝ }
+{
+    [0; ROOM]
 }
 
 // The listing, from the page's first byte on.

@@ -1,7 +1,6 @@
 -- `lines::in_little_room` meets its contract: the page has room for the lines of a block, and its front is handed over.
 use mathlib.Core.Path.{sym}
-use native.Mathlib.Nat.{le-trans}
-use lib.Dec.{lit≤}
+use native.Mathlib.Nat.{le-trans, le-of-eq}
 use lib.Seq.{length-take-le}
 use Rattle.text.proofs.Puts.{inside, handed-on}
 use Rattle.lines.proofs.Records.{text-most}
@@ -17,18 +16,10 @@ slice-aggregate-hand c = sym (length-take-le (c .before .before .write .result) 
 
 returns : tie.Need-returns
 returns c =
-    let start = c .before .before .before .before .before .before .before .before .before .before in
-    let fits = le-trans (text-most (start .args .asked) (start .args .s .now) (start .pre)) (lit≤ tt) in
-    handed-on (start .args .out .now) (c .before .before .before .before .before .before .write .ensures) fits (c .before .before .hand .ensures)
+    let made = c .before .before .before .before .before .before in
+    let start = made .before .before .before .before .before in
+    let fits = le-trans (text-most (start .args .asked) (start .args .s .now) (start .pre)) (le-of-eq (made .before .before .blank .ensures)) in
+    handed-on (start .args .out .now) (made .write .ensures) fits (c .before .before .hand .ensures)
 
 pub in-little-room-spec : {M : Type 1} → statement M
-in-little-room-spec =
-    tie.close
-    (tie.spec
-    (λ c. search needs)
-    (λ c κs. search needs)
-    array-share-prefix-page
-    slice-aggregate-hand
-    (λ c κs. search needs)
-    (λ c. search needs)
-    returns)
+in-little-room-spec = tie.close (tie.spec (λ c κs. tt) (λ c. c .before .blank .ensures) (λ c κs. tt) array-share-prefix-page slice-aggregate-hand (λ c κs. tt) (λ c. search needs) returns)

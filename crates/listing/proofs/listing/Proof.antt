@@ -1,7 +1,6 @@
 -- `listing::listing` meets its contract: the page has room for any listing, so the part that is handed over is the listing.
 use mathlib.Core.Path.{sym}
-use native.Mathlib.Nat.{le-trans}
-use lib.Dec.{lit≤}
+use native.Mathlib.Nat.{le-trans, le-of-eq}
 use borrow.Author.Needs.{needs}
 use lib.Seq.{length-take-le}
 use Rattle.text.proofs.Puts.{inside, handed-on}
@@ -18,8 +17,9 @@ slice-aggregate-hand c = sym (length-take-le (c .before .before .write .result) 
 returns : tie.Need-returns
 returns c =
     let made = c .before .before .before .before .before .before in
-    let start = made .before .before .before .before in
-    handed-on (start .args .out .now) (made .write .ensures) (le-trans (longest (start .args .deck .now)) (lit≤ tt)) (c .before .before .hand .ensures)
+    let start = made .before .before .before .before .before in
+    let fits = le-trans (longest (start .args .deck .now)) (le-of-eq (made .before .before .blank .ensures)) in
+    handed-on (start .args .out .now) (made .write .ensures) fits (c .before .before .hand .ensures)
 
 pub listing-spec : {M : Type 1} → statement M
-listing-spec = tie.close (tie.spec (λ c. search needs) (λ c κs. search needs) array-share-prefix-page slice-aggregate-hand (λ c κs. search needs) (λ c. search needs) returns)
+listing-spec = tie.close (tie.spec (λ c κs. tt) (λ c. c .before .blank .ensures) (λ c κs. tt) array-share-prefix-page slice-aggregate-hand (λ c κs. tt) (λ c. search needs) returns)
