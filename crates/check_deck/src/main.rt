@@ -4,7 +4,7 @@ ghost use mathlib.Core.Path.{_≡_};
 ghost use Prim.Native.Nat.{_≤_};
 ghost use lib.ListN.{length};
 ghost use Rattle.io.specs.Counts.{Counts};
-ghost use Rattle.deck.specs.Contents.{readOfADeck};
+ghost use Rattle.contents.specs.Contents.{readOfADeck};
 ghost use Rattle.listing.specs.Listing.{listingOf};
 
 // One byte more than the largest deck has: what is longer has bytes left over, or is refused before.

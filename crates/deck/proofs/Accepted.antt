@@ -16,13 +16,11 @@ use Rattle.card.specs.Fields.{Card}
 use Rattle.card.specs.Said.{Said, numberIn}
 use Rattle.card.specs.Verdict.{verdictOn}
 use Rattle.deck.specs.declared.Totals.{Totals}
-use Rattle.deck.specs.Contents.{entryAt, countOf, cardsOf}
+use Rattle.contents.specs.Contents.{entryAt, countOf, cardsOf}
 use Rattle.deck.specs.Tally.{Residuals, tallyOf}
 use Rattle.deck.specs.Check.{verdictsOf, numbersOf, judgedOf, tallied, answerOf, written, listAfter}
-use Rattle.deck.proofs.Cards.{KindsFrom, kinds-named}
-use Rattle.deck.proofs.Opened.{opened-to}
 use Rattle.deck.proofs.Tallied.{totals-add-up}
-use Rattle.deck.proofs.Sizes.{few-cards}
+use Rattle.contents.proofs.Sizes.{few-cards}
 
 -- ---- an accepted deck: its cards, a verdict for each, and room for them
 
@@ -104,10 +102,6 @@ unfolding listAfter
 list-as-long deck list = as-long deck list (judgedOf deck (length list)) refl
 
 -- ---- what an answer tells of the cards
-
--- the entries name their kinds
-pub all-kinds-named : (deck : List ℕ) (cards : List Card) → cardsOf deck ≡ pass cards → KindsFrom deck 0 cards
-all-kinds-named deck cards h = kinds-named deck (countOf deck) 0 (entryAt (countOf deck)) cards (opened-to deck cards h .1)
 
 -- an accepted deck's cards: tally and totals are theirs, and the list begins with their verdicts' numbers
 pub record Answered (deck list : List ℕ) (totals : Totals) (r : Residuals) : Type 0 where

@@ -17,11 +17,11 @@ use Rattle.card.specs.Fields.{Card, sizeOf}
 use Rattle.card.specs.Said.{Said, numberIn}
 use Rattle.card.specs.Verdict.{verdictOn}
 use Rattle.deck.specs.declared.tally.Running.{Running}
-use Rattle.deck.specs.Contents.{entryAt, entryIn, cardsFrom, Passes}
+use Rattle.contents.specs.Contents.{entryAt, entryIn, cardsFrom, Passes}
 use Rattle.deck.specs.Tally.{nothing, counted, countedAll, residualsOf, totalsOf}
 use Rattle.deck.specs.Check.{verdictsOf, numbersOf, judgedFrom, tallied, written}
 use Rattle.deck.proofs.Tallied.{totalOf, one-counted}
-use Rattle.deck.proofs.Cards.{cardAt, entry-inside, one-more, come-to-cards, no-more, as-many}
+use Rattle.contents.proofs.Cards.{cardAt, entry-inside, one-more, come-to-cards, no-more, as-many}
 
 -- while an entry is left, the part of the list that is lent on has a place
 pub some-left : (i : ℕ) (list : List ℕ) → i < length list → 0 < length (take (length list - i) (drop i list))

@@ -1,9 +1,6 @@
-pub mod Cards
-pub mod Walking
 pub mod Tallied
 pub mod Going
-pub mod Opened
-pub mod Sizes
+pub mod Settled
 pub mod Accepted
 pub mod Theorems
 pub mod Worst

@@ -1,51 +1,17 @@
 -- What the answer of a check says can be undone, since the number of a reason names the reason: `said` is one to one, and the contract of
 -- `check` has one answer.
 use mathlib.Core.Path.{_≡_, refl, ap}
-use mathlib.Core.List.{List, [], _∷_}
-use Prim.Native.Nat.{ℕ, _-_}
-use lib.ListN.{getD}
 use Rattle.coincidence.specs.Coincidence.{OneToOne}
 use Rattle.coincidence.proofs.Laws.{undone}
 use Rattle.rows.specs.Rows.{Checked, pass, refuse}
+use Rattle.contents.proofs.Theorems.{reasonOf, reason-is}
 use Rattle.deck.specs.declared.Totals.{Totals}
-use Rattle.deck.specs.declared.Reason.{Reason}
-use Rattle.deck.specs.declared.Reason.the-variants as why
 use Rattle.deck.specs.declared.Residuals as declared
 use Rattle.deck.specs.declared.Residuals.the-variants as residuals
 use Rattle.deck.specs.declared.Answer.{Answer}
 use Rattle.deck.specs.declared.Answer.the-variants as answer
 use Rattle.deck.specs.Tally.{Residuals, absent, known}
-use Rattle.deck.specs.Said.{reasonNumber, told, said}
-
--- a reason by its number, from 30 on
-abbrev reasons : List Reason
-reasons =
-    why.TooShort
-    ∷ why.OtherVersion
-    ∷ why.TooManyCards
-    ∷ why.ContentsPastEnd
-    ∷ why.UnknownKind
-    ∷ why.WrongLength
-    ∷ why.WrongOffset
-    ∷ why.BodyPastEnd
-    ∷ why.BytesLeftOver
-    ∷ why.ListTooShort
-    ∷ []
-
-abbrev reasonOf : ℕ → Reason
-reasonOf k = getD reasons (k - 30) why.TooShort
-
-reason-is : (r : Reason) → reasonOf (reasonNumber r) ≡ r
-reason-is why.TooShort = refl
-reason-is why.OtherVersion = refl
-reason-is why.TooManyCards = refl
-reason-is why.ContentsPastEnd = refl
-reason-is why.UnknownKind = refl
-reason-is why.WrongLength = refl
-reason-is why.WrongOffset = refl
-reason-is why.BodyPastEnd = refl
-reason-is why.BytesLeftOver = refl
-reason-is why.ListTooShort = refl
+use Rattle.deck.specs.Said.{told, said}
 
 abbrev untold : Residuals → declared.Residuals
 untold absent = residuals.Absent

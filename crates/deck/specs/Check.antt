@@ -8,7 +8,7 @@ use Rattle.card.specs.Fields.{Card}
 use Rattle.card.specs.Said.{Said, numberIn}
 use Rattle.card.specs.Verdict.{verdictOn}
 use Rattle.deck.specs.declared.Totals.{Totals}
-use Rattle.deck.specs.Contents.{entryAt, countOf, cardsFrom, cardsOf}
+use Rattle.contents.specs.Contents.{entryAt, countOf, cardsFrom, cardsOf}
 use Rattle.deck.specs.Tally.{Residuals, tallyOf}
 
 -- a verdict for each card, in deck order

@@ -1,4 +1,3 @@
-pub mod Contents
 pub mod Tally
 pub mod Said
 pub mod Check

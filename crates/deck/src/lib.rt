@@ -5,57 +5,22 @@
 // deck's bytes and the list before. A refused deck leaves the list as it was lent. The crate assumes
 // nothing.
 use card::Kind;
-use card::Named;
 use card::Verdict;
 use contents::Contents;
 use contents::ENTRY;
 use contents::Entry;
 use contents::HEADER;
+use contents::Reason;
 ghost use mathlib.Core.Path.{_≡_};
 ghost use Prim.Native.Nat.{_≤_, _<_};
 ghost use lib.ListN.{length, set};
 ghost use Rattle.card.specs.Said as card;
 ghost use Rattle.card.specs.Verdict.{verdictOn};
-ghost use Rattle.deck.specs.Said.{reasonNumber, said};
-ghost use Rattle.deck.specs.Contents.{kindAt, entryAt, cardsFrom, Passes};
+ghost use Rattle.contents.specs.Contents.{entryAt, cardsFrom, Passes};
+ghost use Rattle.deck.specs.Said.{said};
 ghost use Rattle.deck.specs.Check.{judgedFrom, tallied, answerOf, written, listAfter};
 
-mod contents;
 mod tally;
-
-// Why a deck is refused.
-pub enum Reason {
-    TooShort,
-    OtherVersion,
-    TooManyCards,
-    ContentsPastEnd,
-    UnknownKind,
-    WrongLength,
-    WrongOffset,
-    BodyPastEnd,
-    BytesLeftOver,
-    ListTooShort,
-}
-
-impl Reason {
-    // Its number in the rules.
-    pub fn number(self) -> u32
-        ensures { λ r. ⌜ r ≡ reasonNumber self ⌝ }
-    {
-        match self {
-            Reason::TooShort => 30,
-            Reason::OtherVersion => 31,
-            Reason::TooManyCards => 32,
-            Reason::ContentsPastEnd => 33,
-            Reason::UnknownKind => 34,
-            Reason::WrongLength => 35,
-            Reason::WrongOffset => 36,
-            Reason::BodyPastEnd => 37,
-            Reason::BytesLeftOver => 38,
-            Reason::ListTooShort => 39,
-        }
-    }
-}
 
 // How many cards were accepted as solved, accepted as refused, and rejected.
 pub struct Totals {
@@ -84,7 +49,7 @@ pub fn check(deck: &[u8], verdicts: &mut [u32]) -> Answer
     match contents::tested(deck) {
         Contents::Refused(why) => Answer::Refused(why),
         Contents::Cards(count) => {
-            if verdicts.len() < count {
+            if verdicts.len() < count as usize {
                 return Answer::Refused(Reason::ListTooShort);
             }
             judged(deck, count, verdicts)
@@ -92,29 +57,22 @@ pub fn check(deck: &[u8], verdicts: &mut [u32]) -> Answer
     }
 }
 
-// The kind in the contents' entry i.
-pub fn kind_at(deck: &[u8], i: u32) -> Named
-    ensures { λ r. ⌜ card.named r ≡ kindAt (now (deck .entry)) i ⌝ }
-{
-    card::kind_of(words::half(deck, HEADER + ENTRY * i as usize))
-}
-
 // A verdict for each card of a deck whose contents passed, and the tally. No entry is refused here.
-fn judged(deck: &[u8], count: usize, verdicts: &mut [u32]) -> Answer
+fn judged(deck: &[u8], count: u32, verdicts: &mut [u32]) -> Answer
     requires { ⌜ (count ≤ 256) × (entryAt count ≤ length (now deck)) × (count ≤ length (now verdicts)) ⌝ }
     requires { ⌜ Passes (cardsFrom (now deck) count 0 (entryAt count)) ⌝ }
     ensures { λ r. ⌜ said r ≡ tallied (judgedFrom (now (deck .entry)) count) ⌝ }
     ensures { λ r. ⌜ now (verdicts .exit) ≡ written (judgedFrom (now (deck .entry)) count) (now (verdicts .entry)) ⌝ }
 {
     let mut i = 0;
-    let mut at = HEADER + ENTRY * count;
+    let mut at = HEADER + ENTRY * count as usize;
     let mut running = tally::none();
     while i < count {
         match contents::entry_at(deck, i, at) {
             Entry::Refused(why) => return Answer::Refused(why),
             Entry::Card(kind) => {
                 let end = at + kind.size();
-                let verdict = judge_into(&mut verdicts[i..], kind, &deck[at..end]);
+                let verdict = judge_into(&mut verdicts[i as usize..], kind, &deck[at..end]);
                 running = tally::with(running, verdict);
                 at = end;
                 i += 1;

@@ -21,11 +21,11 @@ use Rattle.card.specs.Verdict.{verdictOn}
 use Rattle.card.proofs.Rejected.{rejected-numbered}
 use Rattle.card.proofs.Accepted.{never-solved}
 use Rattle.deck.specs.declared.Totals.{Totals}
-use Rattle.deck.specs.Contents.{cardsOf, readOfADeck}
+use Rattle.contents.specs.Contents.{cardsOf, readOfADeck}
 use Rattle.deck.specs.Tally.{nothing, counted, countedAll, Residuals, absent, known, residualsOf, totalsOf}
 use Rattle.deck.specs.Check.{verdictsOf}
 use Rattle.deck.proofs.Tallied.{totals-add-up, first-and-others, known-is}
-use Rattle.deck.proofs.Sizes.{few-cards, read-is-enough}
+use Rattle.contents.proofs.Sizes.{few-cards, read-is-enough}
 use Rattle.listing.specs.Listing.{placedLine, cardLine, cardLines, totalsLine, residualLines, acceptedLines, linesFor, listingOf, longestListing}
 
 -- ---- the digits of the places

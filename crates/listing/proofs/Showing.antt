@@ -16,10 +16,10 @@ use Rattle.rows.specs.Rows.{pass, refuse}
 use Rattle.rows.proofs.Laws.{pass-once}
 use Rattle.card.specs.declared.Kind.{Kind}
 use Rattle.card.specs.Fields.{Card}
-use Rattle.deck.specs.Contents.{kindAt, cardsOf}
+use Rattle.contents.specs.Contents.{kindAt, cardsOf}
 use Rattle.deck.specs.Check.{numbersOf}
-use Rattle.deck.proofs.Cards.{KindsFrom}
-use Rattle.deck.proofs.Accepted.{all-kinds-named}
+use Rattle.contents.proofs.Cards.{KindsFrom}
+use Rattle.contents.proofs.Opened.{all-kinds-named}
 use Rattle.listing.specs.Listing.{verdictNumber, placedLine, cardLine, cardLines}
 use Rattle.listing.specs.Judged.{Judged}
 

@@ -5,7 +5,7 @@ use mathlib.Core.List.{List, _++_}
 use lib.ListN.{length}
 use Rattle.rows.specs.Rows.{pass}
 use Rattle.card.specs.Fields.{Card}
-use Rattle.deck.specs.Contents.{cardsOf}
+use Rattle.contents.specs.Contents.{cardsOf}
 use Rattle.deck.specs.Check.{numbersOf}
 
 -- an accepted deck's cards, counted, with their verdicts' numbers in the first places of a list

@@ -9,7 +9,7 @@ use Rattle.card.specs.Fields.{Card}
 use Rattle.card.specs.Said.{numberIn}
 use Rattle.card.specs.Verdict.{verdictOn}
 use Rattle.deck.specs.declared.Totals.{Totals}
-use Rattle.deck.specs.Contents.{cardsOf}
+use Rattle.contents.specs.Contents.{cardsOf}
 use Rattle.deck.specs.Tally.{Residuals, absent, known, tallyOf}
 use Rattle.deck.specs.Check.{verdictsOf}
 

@@ -14,7 +14,7 @@ ghost use lib.ListN.{length};
 ghost use Rattle.rows.specs.Rows.{pass};
 ghost use Rattle.text.specs.Text.{Put, handedIn};
 ghost use Rattle.card.specs.Fields.{Card};
-ghost use Rattle.deck.specs.Contents.{cardsOf};
+ghost use Rattle.contents.specs.Contents.{cardsOf};
 ghost use Rattle.deck.specs.Said.{told};
 ghost use Rattle.listing.specs.Listing as listing;
 ghost use Rattle.listing.specs.Judged.{Judged};
@@ -75,7 +75,7 @@ fn cards(deck: &[u8], verdicts: &[u32], count: u32, page: &mut [u8]) -> usize
     let mut end = 0;
     while i < count {
         let place = i as usize;
-        let Named::Kind(kind) = deck::kind_at(deck, i) else {
+        let Named::Kind(kind) = contents::kind_at(deck, i) else {
             return end;
         };
         end = card_line(i + 1, kind, verdicts[place], page, end);

@@ -16,7 +16,7 @@ use Rattle.words.specs.Words.{value, valueAt, bytesOf}
 use Rattle.card.specs.Fields.{kindOf, sizeOf, problemOf}
 use Rattle.card.specs.Made.{numbersBytes}
 use Rattle.card.specs.Verdict.{unfoldsTo, atX, solvedCard, refusedCard, verdictOn}
-use Rattle.deck.specs.Contents.{entryIn, cardsFrom, cardsOf}
+use Rattle.contents.specs.Contents.{entryIn, cardsFrom, cardsOf}
 use Rattle.deck.specs.Tally.{countedAll, residualsOf}
 use Rattle.text.specs.Text.{decimal, hex}
 use Rattle.listing.specs.Listing.{cardLines, listingOf}

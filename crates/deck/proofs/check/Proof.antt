@@ -1,7 +1,8 @@
 -- `deck::check` meets its contract: the contents' refusal, 39, or the verdicts and the tally; where it refuses, the list is as it was lent.
 use mathlib.Core.Path.{sym, ap, _∙_}
-use Rattle.deck.specs.Said.{reasonNumber, listed}
-use Rattle.deck.proofs.Opened.{Opened, opened, contents-refused, list-too-short, accepted}
+use Rattle.contents.specs.Said.{reasonNumber, listed}
+use Rattle.contents.proofs.Opened.{Opened, opened}
+use Rattle.deck.proofs.Settled.{contents-refused, list-too-short, accepted}
 use borrow.Author.Needs.{needs}
 use Rattle.deck.proofs.check.Statement.{statement}
 use Rattle.deck.proofs.check.Tie as tie
@@ -23,4 +24,4 @@ returns-3 : tie.Need-returns-3
 returns-3 c = let is = accepted (c .before .before .before .before .before .before .before .before .before .before .before .args .deck .now) (c .before .before .before .before .before .before .count .given .0 .0) (passed (c .before .before .before .before .before .before)) (c .before .before .before .before .before .before .before .before .before .before .before .args .verdicts .now) (c .before .before .before .before .if1 .left) in (c .before .before .judged .ensures .0 ∙ is .0, c .before .before .judged .ensures .1 ∙ is .1)
 
 pub check-spec : {M : Type 1} → statement M
-check-spec = tie.close (tie.spec (λ c κs. search needs) (λ c. search needs) (λ c. search needs) returns judged-requires returns-2 (λ c. search needs) returns-3)
+check-spec = tie.close (tie.spec (λ c κs. search needs) (λ c. search needs) (λ c. search needs) (λ c. search needs) returns judged-requires returns-2 (λ c. search needs) returns-3)

@@ -8,9 +8,9 @@ use lib.ListN.{length}
 use Rattle.rows.specs.Rows.{pass}
 use Rattle.card.specs.Said.{said}
 use Rattle.deck.specs.declared.tally.Running.{Running}
-use Rattle.deck.specs.Said.{reasonNumber, entered}
-use Rattle.deck.specs.Contents.{entryAt, entryIn}
-use Rattle.deck.proofs.Cards.{entry-inside}
+use Rattle.contents.specs.Said.{reasonNumber, entered}
+use Rattle.contents.specs.Contents.{entryAt, entryIn}
+use Rattle.contents.proofs.Cards.{entry-inside}
 use Rattle.deck.proofs.Going.{Going, some-left, start, never-refused, turn, answer-is, list-is}
 use Rattle.deck.proofs.judged.Statement.{statement}
 use Rattle.deck.proofs.judged.Tie as tie
@@ -23,9 +23,6 @@ abbrev μ-loop : tie.MeasureT-loop
 
 loop-holds : tie.Need-loop-holds Inv-loop μ-loop
 loop-holds c = subst (λ (n : Running). Going (c .before .before .before .args .deck .now) (c .before .before .before .args .count) (c .before .before .before .args .verdicts .now) (c .before .before .before .args .verdicts .now) 0 (entryAt (c .before .before .before .args .count)) n) (sym (c .none .ensures)) (start (c .before .before .before .args .deck .now) (c .before .before .before .args .count) (c .before .before .before .args .verdicts .now) (c .before .before .before .pre .0 .1) (c .before .before .before .pre .1))
-
-entry-at-requires : tie.Need-entry-at-requires Inv-loop μ-loop
-entry-at-requires c κs = (omega (arith, c .before .loop .inv .few, c .before .before .before .before .before .pre .0 .0), c .before .loop .inv .inside)
 
 same-length : tie.Need-same-length Inv-loop μ-loop
 same-length c = c .before .before .before .before .before .loop .inv .as-long
@@ -77,4 +74,4 @@ returns-2 : tie.Need-returns-2 Inv-loop μ-loop
 returns-2 c = (c .closed .ensures ∙ answer-is (c .before .before .loop .inv) (omega arith), list-is (c .before .before .loop .inv) (omega arith) (c .before .before .before .before .before .before .pre .0 .2))
 
 pub judged-spec : {M : Type 1} → statement M
-judged-spec = tie.close (tie.spec Inv-loop μ-loop (λ c. omega arith) (λ c. omega arith) (λ c κs. search needs) loop-holds entry-at-requires (λ c. search needs) same-length returns (λ c. search needs) (λ c κs. search needs) add-end mul-judge-into sub-judge-into part-judge-into-start (λ c. omega arith) (λ c. omega arith) (λ c. omega arith) part-judge-into-end-2 judge-into-requires with-requires add-i (λ c. omega arith) loop-again (λ c κs. search needs) same-length-2 returns-2)
+judged-spec = tie.close (tie.spec Inv-loop μ-loop (λ c. omega arith) (λ c. omega arith) (λ c κs. search needs) loop-holds (λ c κs. search needs) (λ c. search needs) same-length returns (λ c. search needs) (λ c κs. search needs) add-end (λ c. search needs) mul-judge-into sub-judge-into part-judge-into-start (λ c. omega arith) (λ c. omega arith) (λ c. omega arith) part-judge-into-end-2 judge-into-requires with-requires add-i (λ c. omega arith) loop-again (λ c κs. search needs) same-length-2 returns-2)

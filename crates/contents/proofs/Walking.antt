@@ -8,8 +8,8 @@ use lib.ListN.{length}
 use Rattle.rows.specs.Rows.{Checked, pass, refuse, must, onward}
 use Rattle.card.specs.declared.Kind.{Kind}
 use Rattle.card.specs.Fields.{Card, sizeOf}
-use Rattle.deck.specs.Contents.{entryAt, entryIn, cardsFrom, counting}
-use Rattle.deck.proofs.Cards.{cardAt, entry-inside, and-rest, cards-are}
+use Rattle.contents.specs.Contents.{entryAt, entryIn, cardsFrom, counting}
+use Rattle.contents.proofs.Cards.{cardAt, entry-inside, and-rest, cards-are}
 
 pub record Walking (deck : List ℕ) (count i at : ℕ) : Type 0 where
   pub few : i ≤ count

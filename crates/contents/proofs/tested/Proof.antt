@@ -4,10 +4,10 @@ use borrow.Author.Tests.{eq-eqb, ne-eqb, le-leb, lt-leb}
 use lib.Dec.{leb}
 use lib.ListN.{length}
 use Rattle.rows.specs.Rows.{must, onward}
-use Rattle.deck.specs.Contents.{entryAt, cardsFrom, cardsOf}
+use Rattle.contents.specs.Contents.{entryAt, cardsFrom, cardsOf}
 use borrow.Author.Needs.{needs}
-use Rattle.deck.proofs.contents.tested.Statement.{statement}
-use Rattle.deck.proofs.contents.tested.Tie as tie
+use Rattle.contents.proofs.tested.Statement.{statement}
+use Rattle.contents.proofs.tested.Tie as tie
 
 returns : tie.Need-returns
 unfolding must onward cardsOf
@@ -35,4 +35,4 @@ unfolding must
 returns-5 c = c .entries-tested .ensures ∙ rw (counted (c .before .before .before), le-leb (c .before .before .before .half2 .result) 256 (c .before .before .if3 .left), le-leb (entryAt (c .before .before .before .half2 .result)) (length (c .before .before .before .before .before .before .before .before .args .deck .now)) (c .before .if4 .left), ← c .before .before .before .half2 .ensures) refl
 
 pub tested-spec : {M : Type 1} → statement M
-tested-spec = tie.close (tie.spec returns (λ c κs. search needs) returns-2 (λ c κs. search needs) (λ c. search needs) returns-3 (λ c. search needs) (λ c. search needs) returns-4 (λ c κs. search needs) returns-5)
+tested-spec = tie.close (tie.spec returns (λ c κs. search needs) returns-2 (λ c κs. search needs) returns-3 (λ c. search needs) (λ c. search needs) (λ c. search needs) returns-4 (λ c κs. search needs) returns-5)

@@ -1,8 +1,8 @@
 -- `deck::kind_at` meets its contract: the kind of the number that stands in the entry.
 use mathlib.Core.Path.{refl, _∙_}
 use borrow.Author.Needs.{needs}
-use Rattle.deck.proofs.kind_at.Statement.{statement}
-use Rattle.deck.proofs.kind_at.Tie as tie
+use Rattle.contents.proofs.kind_at.Statement.{statement}
+use Rattle.contents.proofs.kind_at.Tie as tie
 
 returns : tie.Need-returns
 returns c = c .kind-of .ensures ∙ rw (c .before .half .ensures) refl

@@ -15,9 +15,9 @@ use Rattle.rows.proofs.Laws.{test-passed}
 use Rattle.card.specs.declared.Kind.{Kind}
 use Rattle.card.specs.Fields.{Card, sizeOf}
 use Rattle.card.proofs.Sizes.{size-most}
-use Rattle.deck.specs.Contents.{entryAt, versionOf, countOf, entryIn, cardsFrom, cardsOf, largestDeck, readOfADeck}
-use Rattle.deck.proofs.Cards.{cardAt, one-more, as-many}
-use Rattle.deck.proofs.Opened.{opened-to}
+use Rattle.contents.specs.Contents.{entryAt, versionOf, countOf, entryIn, cardsFrom, cardsOf, largestDeck, readOfADeck}
+use Rattle.contents.proofs.Cards.{cardAt, one-more, as-many}
+use Rattle.contents.proofs.Opened.{opened-to}
 
 -- ---- the largest deck
 

@@ -10,7 +10,7 @@ use Rattle.rows.specs.Rows.{Checked, pass, refuse, must, onward}
 use Rattle.rows.proofs.Laws.{pass-once, test-passed, rows-passed}
 use Rattle.card.specs.declared.Kind.{Kind}
 use Rattle.card.specs.Fields.{Card, sizeOf}
-use Rattle.deck.specs.Contents.{kindAt, offsetAt, lengthAt, entryIn, cardsFrom, Passes}
+use Rattle.contents.specs.Contents.{kindAt, offsetAt, lengthAt, entryIn, cardsFrom, Passes}
 
 -- the card of an entry that passed
 abbrev pub cardAt : List ℕ → Kind → (at : ℕ) → Card

@@ -5,12 +5,12 @@ use native.Mathlib.Omega.{arith}
 use borrow.Author.Needs.{needs}
 use lib.ListN.{length}
 use Rattle.rows.specs.Rows.{pass}
-use Rattle.deck.specs.Said.{reasonNumber, entered}
-use Rattle.deck.specs.Contents.{entryIn}
-use Rattle.deck.proofs.Cards.{entry-inside}
-use Rattle.deck.proofs.Walking.{Walking, set-out, entry-refused, walk-on, left-over, all-read}
-use Rattle.deck.proofs.contents.entries_tested.Statement.{statement}
-use Rattle.deck.proofs.contents.entries_tested.Tie as tie
+use Rattle.contents.specs.Said.{reasonNumber, entered}
+use Rattle.contents.specs.Contents.{entryIn}
+use Rattle.contents.proofs.Cards.{entry-inside}
+use Rattle.contents.proofs.Walking.{Walking, set-out, entry-refused, walk-on, left-over, all-read}
+use Rattle.contents.proofs.entries_tested.Statement.{statement}
+use Rattle.contents.proofs.entries_tested.Tie as tie
 
 abbrev Inv-loop : tie.InvT-loop
 Inv-loop deck count i₀ at₀ i at = Walking deck count i at
@@ -19,10 +19,7 @@ abbrev μ-loop : tie.MeasureT-loop
 μ-loop deck count i₀ at₀ i at = count - i
 
 loop-holds : tie.Need-loop-holds Inv-loop μ-loop
-loop-holds c = set-out (c .before .args .deck .now) (c .before .args .count) (c .before .pre .1)
-
-entry-at-requires : tie.Need-entry-at-requires Inv-loop μ-loop
-entry-at-requires c κs = (omega (arith, c .before .loop .inv .few), c .before .loop .inv .inside)
+loop-holds c = set-out (c .before .args .deck .now) (c .before .args .count) (c .before .pre)
 
 returns : tie.Need-returns Inv-loop μ-loop
 returns c = entry-refused (c .before .before .before .before .before .loop .inv) (reasonNumber (c .before .why .given .0 .0)) (omega arith) (sym (c .before .before .before .entry-at .ensures) ∙ ap entered (c .before .why .given .1))
@@ -50,4 +47,4 @@ returns-3 : tie.Need-returns-3 Inv-loop μ-loop
 returns-3 c = all-read (c .before .before .loop .inv) (omega arith) (c .if1 .left)
 
 pub entries-tested-spec : {M : Type 1} → statement M
-entries-tested-spec = tie.close (tie.spec Inv-loop μ-loop (λ c. omega arith) (λ c. omega arith) loop-holds entry-at-requires (λ c. search needs) returns (λ c. search needs) (λ c κs. search needs) add-at-2 add-i (λ c. omega arith) loop-again returns-2 returns-3)
+entries-tested-spec = tie.close (tie.spec Inv-loop μ-loop (λ c. omega arith) (λ c. omega arith) loop-holds (λ c κs. search needs) (λ c. search needs) returns (λ c. search needs) (λ c κs. search needs) add-at-2 add-i (λ c. omega arith) loop-again returns-2 returns-3)

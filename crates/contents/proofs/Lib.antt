@@ -1,0 +1,6 @@
+pub mod Cards
+pub mod Walking
+pub mod Opened
+pub mod Sizes
+pub mod Theorems
+pub mod Fixed

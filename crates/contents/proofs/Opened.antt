@@ -1,0 +1,55 @@
+-- What the tests of a deck's contents tell: contents that are refused come to no cards, and of contents that pass, count, room for the
+-- entries, and the cards from the first entry on.
+use mathlib.Core.Path.{_≡_, refl, sym, subst, _∙_}
+use mathlib.Core.Bool.{true≢false}
+use mathlib.Core.List.{List}
+use Prim.Native.Nat.{ℕ, _≤_}
+use borrow.Author.Tests.{leb-true}
+use lib.Dec.{eqb, leb}
+use lib.ListN.{length}
+use Rattle.rows.specs.Rows.{Checked, pass, refuse, must, onward}
+use Rattle.rows.proofs.Laws.{pass-once, test-passed, rows-passed}
+use Rattle.card.specs.Fields.{Card}
+use Rattle.contents.specs.Contents.{entryAt, versionOf, countOf, cardsFrom, cardsOf, counting, Passes}
+use Rattle.contents.proofs.Cards.{KindsFrom, kinds-named}
+
+-- a refusal is found where the cards are counted
+pub refused-before : (count : ℕ) (m : Checked (List Card)) (k : ℕ) → counting count m ≡ refuse k → m ≡ refuse k
+unfolding onward
+refused-before count (pass cards) k h = absurd (true≢false cc)
+refused-before count (refuse n) k h = cc
+
+pub record Opened (deck : List ℕ) (count : ℕ) : Type 0 where
+  pub is : count ≡ countOf deck
+  pub most : count ≤ 256
+  pub inside : entryAt count ≤ length deck
+  pub cards-are : cardsOf deck ≡ cardsFrom deck count 0 (entryAt count)
+  pub passes : Passes (cardsFrom deck count 0 (entryAt count))
+
+pub opened : (deck : List ℕ) (count : ℕ) → counting (countOf deck) (cardsOf deck) ≡ pass count → Opened deck count
+unfolding must cardsOf
+opened deck count h =
+    let P = rows-passed (cardsOf deck) (λ cards. pass (countOf deck)) h in
+    let is : countOf deck ≡ count = pass-once (P .2) in
+    let n = countOf deck in
+    let cards = cardsFrom deck n 0 (entryAt n) in
+    let first = test-passed (leb 8 (length deck)) 30 (must (eqb (versionOf deck) 1) 31 (must (leb n 256) 32 (must (leb (entryAt n) (length deck)) 33 cards))) (P .1) in
+    let second = test-passed (eqb (versionOf deck) 1) 31 (must (leb n 256) 32 (must (leb (entryAt n) (length deck)) 33 cards)) (first .1) in
+    let third = test-passed (leb n 256) 32 (must (leb (entryAt n) (length deck)) 33 cards) (second .1) in
+    let fourth = test-passed (leb (entryAt n) (length deck)) 33 cards (third .1) in
+    rw (← is) (record {
+      is = refl;
+      most = leb-true n 256 (third .0);
+      inside = leb-true (entryAt n) (length deck) (fourth .0);
+      cards-are = P .1 ∙ sym (fourth .1);
+      passes = subst Passes (sym (fourth .1)) tt;
+    })
+
+-- a deck that comes to cards is opened, and these are the cards from its first entry on
+pub opened-to : (deck : List ℕ) (cards : List Card) → cardsOf deck ≡ pass cards → Opened deck (countOf deck) × (cardsFrom deck (countOf deck) 0 (entryAt (countOf deck)) ≡ pass cards)
+unfolding onward
+opened-to deck cards h = let o = opened deck (countOf deck) (rw h refl) in (o, sym (o .cards-are) ∙ h)
+
+-- the entries name their kinds
+pub all-kinds-named : (deck : List ℕ) (cards : List Card) → cardsOf deck ≡ pass cards → KindsFrom deck 0 cards
+all-kinds-named deck cards h = kinds-named deck (countOf deck) 0 (entryAt (countOf deck)) cards (opened-to deck cards h .1)

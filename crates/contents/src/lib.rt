@@ -1,0 +1,136 @@
+// The contents of a deck: refusals 30 to 38, in the order of the rules. docs/RULES.md, The deck.
+//
+// Every public function is proved and total: an entry may be asked for by any number, with the last
+// body ended anywhere. The crate assumes nothing.
+use card::Kind;
+use card::Named;
+ghost use mathlib.Core.Path.{_≡_};
+ghost use Prim.Native.Nat.{_≤_};
+ghost use lib.ListN.{length};
+ghost use Rattle.card.specs.Said as card;
+ghost use Rattle.contents.specs.Said.{reasonNumber, entered, listed};
+ghost use Rattle.contents.specs.Contents.{entryAt, countOf, kindAt, entryIn, cardsFrom, cardsOf, counting};
+
+// The bytes before the first entry, and those of one.
+pub const HEADER: usize = 8;
+
+pub const ENTRY: usize = 12;
+
+const VERSION: u32 = 1;
+
+const MOST_CARDS: u32 = 256;
+
+// Why a deck is refused. The last reason is of the verdict list, which `deck` is lent.
+pub enum Reason {
+    TooShort,
+    OtherVersion,
+    TooManyCards,
+    ContentsPastEnd,
+    UnknownKind,
+    WrongLength,
+    WrongOffset,
+    BodyPastEnd,
+    BytesLeftOver,
+    ListTooShort,
+}
+
+impl Reason {
+    // Its number in the rules.
+    pub fn number(self) -> u32
+        ensures { λ r. ⌜ r ≡ reasonNumber self ⌝ }
+    {
+        match self {
+            Reason::TooShort => 30,
+            Reason::OtherVersion => 31,
+            Reason::TooManyCards => 32,
+            Reason::ContentsPastEnd => 33,
+            Reason::UnknownKind => 34,
+            Reason::WrongLength => 35,
+            Reason::WrongOffset => 36,
+            Reason::BodyPastEnd => 37,
+            Reason::BytesLeftOver => 38,
+            Reason::ListTooShort => 39,
+        }
+    }
+}
+
+// What an entry says, where it stands right: its card's kind.
+pub enum Entry {
+    Card(Kind),
+    Refused(Reason),
+}
+
+// How many cards a deck has, or why it is refused.
+pub enum Contents {
+    Cards(u32),
+    Refused(Reason),
+}
+
+pub fn tested(deck: &[u8]) -> Contents
+    ensures { λ r. ⌜ listed r ≡ counting (countOf (now (deck .entry))) (cardsOf (now (deck .entry))) ⌝ }
+{
+    if deck.len() < HEADER {
+        return Contents::Refused(Reason::TooShort);
+    }
+    if words::half(deck, 0) != VERSION {
+        return Contents::Refused(Reason::OtherVersion);
+    }
+    let count = words::half(deck, 4);
+    if MOST_CARDS < count {
+        return Contents::Refused(Reason::TooManyCards);
+    }
+    if deck.len() < HEADER + ENTRY * count as usize {
+        return Contents::Refused(Reason::ContentsPastEnd);
+    }
+    entries_tested(deck, count)
+}
+
+// Each entry in turn, then the bytes left over.
+fn entries_tested(deck: &[u8], count: u32) -> Contents
+    requires { ⌜ entryAt count ≤ length (now deck) ⌝ }
+    ensures { λ r. ⌜ listed r ≡ counting count (cardsFrom (now (deck .entry)) count 0 (entryAt count)) ⌝ }
+{
+    let mut i = 0;
+    let mut at = HEADER + ENTRY * count as usize;
+    while i < count {
+        match entry_at(deck, i, at) {
+            Entry::Refused(why) => return Contents::Refused(why),
+            Entry::Card(kind) => {
+                at += kind.size();
+                i += 1;
+            }
+        }
+    }
+    if at != deck.len() {
+        return Contents::Refused(Reason::BytesLeftOver);
+    }
+    Contents::Cards(count)
+}
+
+// Entry i, where the last body ended at index at.
+pub fn entry_at(deck: &[u8], i: u32, at: usize) -> Entry
+    ensures { λ r. ⌜ entered r ≡ entryIn (now (deck .entry)) i at ⌝ }
+{
+    let Named::Kind(kind) = kind_at(deck, i) else {
+        return Entry::Refused(Reason::UnknownKind);
+    };
+    let place = HEADER + ENTRY * i as usize;
+    let size = kind.size();
+    if words::half(deck, place + 8) as usize != size {
+        return Entry::Refused(Reason::WrongLength);
+    }
+    if words::half(deck, place + 4) as usize != at {
+        return Entry::Refused(Reason::WrongOffset);
+    }
+    if deck.len() < at + size {
+        return Entry::Refused(Reason::BodyPastEnd);
+    }
+    Entry::Card(kind)
+}
+
+// The kind in entry i.
+pub fn kind_at(deck: &[u8], i: u32) -> Named
+    ensures { λ r. ⌜ card.named r ≡ kindAt (now (deck .entry)) i ⌝ }
+{
+    card::kind_of(words::half(deck, HEADER + ENTRY * i as usize))
+}
