@@ -2,30 +2,18 @@
 use mathlib.Core.Path.{refl}
 use Rattle.coincidence.specs.Coincidence.{Fixes}
 use Rattle.coincidence.proofs.Laws.{one-result, one-answer}
-use Rattle.card.proofs.Theorems.{named-once, said-once}
+use Rattle.card.proofs.Theorems.{named-once}
 use Rattle.card.proofs.Kind.size.Reads as kind-size
 use Rattle.card.proofs.Kind.size.Kinds as kind-size-kinds
-use Rattle.card.proofs.Fault.number.Reads as fault-number
-use Rattle.card.proofs.Fault.number.Kinds as fault-number-kinds
-use Rattle.card.proofs.Verdict.number.Reads as verdict-number
-use Rattle.card.proofs.Verdict.number.Kinds as verdict-number-kinds
 use Rattle.card.proofs.kind_of.Reads as kind-of
 use Rattle.card.proofs.kind_of.Kinds as kind-of-kinds
 use Rattle.card.proofs.number.Reads as number
 use Rattle.card.proofs.number.Kinds as number-kinds
 use Rattle.card.proofs.problem.Reads as problem
 use Rattle.card.proofs.problem.Kinds as problem-kinds
-use Rattle.card.proofs.judge.Reads as judge
-use Rattle.card.proofs.judge.Kinds as judge-kinds
 
 pub kind-size-fixes : Fixes 0 kind-size-kinds.ps kind-size-kinds.r kind-size.Learnt
 kind-size-fixes κs a x y v w p q = (one-result p q, refl)
-
-pub fault-number-fixes : Fixes 0 fault-number-kinds.ps fault-number-kinds.r fault-number.Learnt
-fault-number-fixes κs a x y v w p q = (one-result p q, refl)
-
-pub verdict-number-fixes : Fixes 0 verdict-number-kinds.ps verdict-number-kinds.r verdict-number.Learnt
-verdict-number-fixes κs a x y v w p q = (one-result p q, refl)
 
 pub kind-of-fixes : Fixes 0 kind-of-kinds.ps kind-of-kinds.r kind-of.Learnt
 kind-of-fixes κs a x y v w p q = (one-answer named-once x y p q, refl)
@@ -35,6 +23,3 @@ number-fixes κs a x y v w p q = (one-result p q, refl)
 
 pub problem-fixes : Fixes 1 problem-kinds.ps problem-kinds.r problem.Learnt
 problem-fixes κs a x y v w p q = (one-result p q, refl)
-
-pub judge-fixes : Fixes 1 judge-kinds.ps judge-kinds.r judge.Learnt
-judge-fixes κs a x y v w p q = (one-answer said-once x y p q, refl)

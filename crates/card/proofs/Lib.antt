@@ -1,9 +1,4 @@
 pub mod Sizes
-pub mod StateWords
-pub mod Tests
-pub mod Rejected
-pub mod Accepted
 pub mod Numbers
-pub mod Made
 pub mod Theorems
 pub mod Fixed

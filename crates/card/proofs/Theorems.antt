@@ -1,4 +1,4 @@
--- What a kind's name and a verdict say can be undone, so `named` and `said` are one to one, and the contracts through them have one answer.
+-- What a kind's name says can be undone, so `named` is one to one, and the contract of `kind_of` has one answer.
 use mathlib.Core.Path.{_≡_, refl}
 use Rattle.coincidence.specs.Coincidence.{OneToOne}
 use Rattle.coincidence.proofs.Laws.{undone}
@@ -6,9 +6,7 @@ use Rattle.rows.specs.Rows.{Checked, pass, refuse}
 use Rattle.card.specs.declared.Kind.{Kind}
 use Rattle.card.specs.declared.Named.{Named}
 use Rattle.card.specs.declared.Named.the-variants as name
-use Rattle.card.specs.declared.Verdict.{Verdict}
-use Rattle.card.specs.declared.Verdict.the-variants as verdict
-use Rattle.card.specs.Said.{Said, solved, refused, rejected, named, said}
+use Rattle.card.specs.Said.{named}
 
 abbrev unnamed : Checked Kind → Named
 unnamed (pass k) = name.Kind k
@@ -20,16 +18,3 @@ unnamed-is name.Unknown = refl
 
 pub named-once : OneToOne named
 named-once = undone named unnamed unnamed-is
-
-abbrev unsaid : Said → Verdict
-unsaid (solved residual) = verdict.Solved residual
-unsaid refused = verdict.Refused
-unsaid (rejected k) = verdict.Rejected k
-
-unsaid-is : (a : Verdict) → unsaid (said a) ≡ a
-unsaid-is (verdict.Solved residual) = refl
-unsaid-is verdict.Refused = refl
-unsaid-is (verdict.Rejected k) = refl
-
-pub said-once : OneToOne said
-said-once = undone said unsaid unsaid-is

@@ -1,4 +1,3 @@
 pub mod Fields
 pub mod Said
-pub mod Verdict
 pub mod Made

@@ -13,8 +13,8 @@ use lib.Seq.{take-at, drop-at}
 use Rattle.rows.specs.Rows.{Checked, pass, refuse, must, onward}
 use Rattle.rows.proofs.Laws.{pass-once, test-passed, rows-passed}
 use Rattle.card.specs.Fields.{Card}
-use Rattle.card.specs.Said.{Said, numberIn}
-use Rattle.card.specs.Verdict.{verdictOn}
+use Rattle.verdict.specs.Said.{Said, numberIn}
+use Rattle.verdict.specs.Verdict.{verdictOn}
 use Rattle.deck.specs.declared.Totals.{Totals}
 use Rattle.contents.specs.Contents.{entryAt, countOf, cardsOf}
 use Rattle.deck.specs.Tally.{Residuals, tallyOf}

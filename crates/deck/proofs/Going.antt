@@ -14,8 +14,8 @@ use Rattle.rows.specs.Rows.{pass, refuse, onward}
 use Rattle.rows.proofs.Laws.{pass-once}
 use Rattle.card.specs.declared.Kind.{Kind}
 use Rattle.card.specs.Fields.{Card, sizeOf}
-use Rattle.card.specs.Said.{Said, numberIn}
-use Rattle.card.specs.Verdict.{verdictOn}
+use Rattle.verdict.specs.Said.{Said, numberIn}
+use Rattle.verdict.specs.Verdict.{verdictOn}
 use Rattle.deck.specs.declared.tally.Running.{Running}
 use Rattle.contents.specs.Contents.{entryAt, entryIn, cardsFrom, Passes}
 use Rattle.deck.specs.Tally.{nothing, counted, countedAll, residualsOf, totalsOf}

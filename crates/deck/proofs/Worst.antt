@@ -17,9 +17,9 @@ use Rattle.exact.proofs.Signs.{Plus}
 use Rattle.exact.proofs.Zero.{nought-number, nought-steps, nought-plus}
 use Rattle.rows.specs.Rows.{pass}
 use Rattle.card.specs.Fields.{Card}
-use Rattle.card.specs.Said.{Said, solved, refused, rejected}
-use Rattle.card.specs.Verdict.{verdictOn}
-use Rattle.card.proofs.Accepted.{residual-plus}
+use Rattle.verdict.specs.Said.{Said, solved, refused, rejected}
+use Rattle.verdict.specs.Verdict.{verdictOn}
+use Rattle.verdict.proofs.Accepted.{residual-plus}
 use Rattle.deck.specs.declared.tally.Running.{Running}
 use Rattle.deck.specs.Tally.{nothing, larger, counted, countedAll, known, residualsOf}
 use Rattle.deck.specs.Check.{verdictsOf, judgedOf}

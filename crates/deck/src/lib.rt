@@ -5,7 +5,7 @@
 // deck's bytes and the list before. A refused deck leaves the list as it was lent. The crate assumes
 // nothing.
 use card::Kind;
-use card::Verdict;
+use verdict::Verdict;
 use contents::Contents;
 use contents::ENTRY;
 use contents::Entry;
@@ -14,8 +14,8 @@ use contents::Reason;
 ghost use mathlib.Core.Path.{_≡_};
 ghost use Prim.Native.Nat.{_≤_, _<_};
 ghost use lib.ListN.{length, set};
-ghost use Rattle.card.specs.Said as card;
-ghost use Rattle.card.specs.Verdict.{verdictOn};
+ghost use Rattle.verdict.specs.Said as judge;
+ghost use Rattle.verdict.specs.Verdict.{verdictOn};
 ghost use Rattle.contents.specs.Contents.{entryAt, cardsFrom, Passes};
 ghost use Rattle.deck.specs.Said.{said};
 ghost use Rattle.deck.specs.Check.{judgedFrom, tallied, answerOf, written, listAfter};
@@ -85,10 +85,10 @@ fn judged(deck: &[u8], count: u32, verdicts: &mut [u32]) -> Answer
 // The verdict on a card, written into the first place of the list.
 fn judge_into(verdicts: &mut [u32], kind: Kind, body: &[u8]) -> Verdict
     requires { ⌜ 0 < length (now verdicts) ⌝ }
-    ensures { λ r. ⌜ card.said r ≡ verdictOn kind (now (body .entry)) ⌝ }
-    ensures { λ r. ⌜ now (verdicts .exit) ≡ set (now (verdicts .entry)) 0 (card.numberIn (card.said r)) ⌝ }
+    ensures { λ r. ⌜ judge.said r ≡ verdictOn kind (now (body .entry)) ⌝ }
+    ensures { λ r. ⌜ now (verdicts .exit) ≡ set (now (verdicts .entry)) 0 (judge.numberIn (judge.said r)) ⌝ }
 {
-    let verdict = card::judge(kind, body);
+    let verdict = verdict::judge(kind, body);
     verdicts[0] = verdict.number();
     verdict
 }

@@ -3,11 +3,11 @@
 use crate::Answer;
 use crate::Residuals;
 use crate::Totals;
-use card::Verdict;
+use verdict::Verdict;
 ghost use mathlib.Core.Path.{_≡_};
 ghost use Prim.Native.Nat.{_+_, _<_};
 ghost use Rattle.rows.specs.Rows.{pass};
-ghost use Rattle.card.specs.Said as card;
+ghost use Rattle.verdict.specs.Said as judge;
 ghost use Rattle.deck.specs.Said.{said};
 ghost use Rattle.deck.specs.Tally.{nothing, larger, counted, meanResidual, residualsOf, totalsOf};
 
@@ -34,7 +34,7 @@ pub(crate) fn none() -> Running
 
 pub(crate) fn with(running: Running, verdict: Verdict) -> Running
     requires { ⌜ running .solved + running .refused + running .rejected < 256 ⌝ }
-    ensures { λ r. ⌜ r ≡ counted running (card.said verdict) ⌝ }
+    ensures { λ r. ⌜ r ≡ counted running (judge.said verdict) ⌝ }
 {
     let mut next = running;
     match verdict {

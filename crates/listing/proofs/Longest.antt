@@ -16,10 +16,10 @@ use Rattle.rows.specs.Rows.{Checked, pass, refuse}
 use Rattle.card.specs.declared.Kind.{Kind}
 use Rattle.card.specs.declared.Kind.the-variants as kind
 use Rattle.card.specs.Fields.{Card}
-use Rattle.card.specs.Said.{Said, solved, refused, rejected, numberIn}
-use Rattle.card.specs.Verdict.{verdictOn}
-use Rattle.card.proofs.Rejected.{rejected-numbered}
-use Rattle.card.proofs.Accepted.{never-solved}
+use Rattle.verdict.specs.Said.{Said, solved, refused, rejected, numberIn}
+use Rattle.verdict.specs.Verdict.{verdictOn}
+use Rattle.verdict.proofs.Rejected.{rejected-numbered}
+use Rattle.verdict.proofs.Accepted.{never-solved}
 use Rattle.deck.specs.declared.Totals.{Totals}
 use Rattle.contents.specs.Contents.{cardsOf, readOfADeck}
 use Rattle.deck.specs.Tally.{nothing, counted, countedAll, Residuals, absent, known, residualsOf, totalsOf}

@@ -15,7 +15,7 @@ use Rattle.kepler.specs.Kepler.{arrivedAt, foundIn, keplerOf}
 use Rattle.words.specs.Words.{value, valueAt, bytesOf}
 use Rattle.card.specs.Fields.{kindOf, sizeOf, problemOf}
 use Rattle.card.specs.Made.{numbersBytes}
-use Rattle.card.specs.Verdict.{unfoldsTo, atX, solvedCard, refusedCard, verdictOn}
+use Rattle.verdict.specs.Verdict.{unfoldsTo, atX, solvedCard, refusedCard, verdictOn}
 use Rattle.contents.specs.Contents.{entryIn, cardsFrom, cardsOf}
 use Rattle.deck.specs.Tally.{countedAll, residualsOf}
 use Rattle.text.specs.Text.{decimal, hex}

@@ -6,7 +6,7 @@ use native.Mathlib.Omega.{arith}
 use borrow.Author.Needs.{needs}
 use lib.ListN.{length}
 use Rattle.rows.specs.Rows.{pass}
-use Rattle.card.specs.Said.{said}
+use Rattle.verdict.specs.Said.{said}
 use Rattle.deck.specs.declared.tally.Running.{Running}
 use Rattle.contents.specs.Said.{reasonNumber, entered}
 use Rattle.contents.specs.Contents.{entryAt, entryIn}

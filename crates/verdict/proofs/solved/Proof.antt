@@ -3,11 +3,11 @@ use mathlib.Core.Path.{_≡_, refl, ap, _∙_}
 use borrow.Author.Tests.{ne-eqb, eq-eqb}
 use Rattle.rows.specs.Rows.{must, onward}
 use Rattle.entry.specs.Said.{passedStart}
-use Rattle.card.specs.Said.{rejected, refusalIn}
-use Rattle.card.specs.Verdict.{atX, solvedCard}
+use Rattle.verdict.specs.Said.{rejected, refusalIn}
+use Rattle.verdict.specs.Verdict.{atX, solvedCard}
 use borrow.Author.Needs.{needs}
-use Rattle.card.proofs.solved.Statement.{statement}
-use Rattle.card.proofs.solved.Tie as tie
+use Rattle.verdict.proofs.solved.Statement.{statement}
+use Rattle.verdict.proofs.solved.Tie as tie
 
 returns : tie.Need-returns
 unfolding must solvedCard

@@ -11,11 +11,11 @@ use Rattle.rows.specs.Rows.{Checked, pass, refuse}
 use Rattle.rows.proofs.Laws.{Refuses, passes, must-refuses, onward-refuses, refusal-has}
 use Rattle.conic.proofs.Arrival.{Numbered, numbered-is, arrival-refuses}
 use Rattle.entry.proofs.Refusals.{entry-refuses}
 use Rattle.card.specs.declared.Kind.{Kind}
 use Rattle.card.specs.declared.Kind.the-variants as kind
 use Rattle.card.specs.Fields.{problemOf}
-use Rattle.card.specs.Said.{rejected, numberIn}
-use Rattle.card.specs.Verdict.{unfoldsTo, atX, solvedCard, refusedCard, asSolved, asRefused, verdictOn}
+use Rattle.verdict.specs.Said.{rejected, numberIn}
+use Rattle.verdict.specs.Verdict.{unfoldsTo, atX, solvedCard, refusedCard, asSolved, asRefused, verdictOn}
 
 unfolds-refuses : (body : List ℕ) (o : Scaled) (x residual : Float) → Refuses Numbered (unfoldsTo body o x residual)
 unfolding unfoldsTo

@@ -22,14 +22,14 @@ use Rattle.conic.proofs.Arrival.{Arrives}
 use Rattle.entry.proofs.Passed.{entered, times-are}
 use Rattle.entry.proofs.Fair.{in-start-finite}
 use Rattle.kepler.specs.Kepler.{keplerOf}
 use Rattle.card.specs.declared.Kind.{Kind}
 use Rattle.card.specs.declared.Kind.the-variants as kind
 use Rattle.card.specs.Fields.{problemOf, spareOf, xOf, refusalOf, lastSpareOf}
-use Rattle.card.specs.Said.{solved, numberIn}
-use Rattle.card.specs.Verdict.{solvedCard, isRefusedWith, refusedCard, asSolved, asRefused, verdictOn}
-use Rattle.card.proofs.StateWords.{stateWords, wordsOf}
-use Rattle.card.proofs.Tests.{solved-is, solved-passes, refused-tests}
-use Rattle.card.proofs.Rejected.{as-solved, zero-accepts}
+use Rattle.verdict.specs.Said.{solved, numberIn}
+use Rattle.verdict.specs.Verdict.{solvedCard, isRefusedWith, refusedCard, asSolved, asRefused, verdictOn}
+use Rattle.verdict.proofs.StateWords.{stateWords, wordsOf}
+use Rattle.verdict.proofs.Tests.{solved-is, solved-passes, refused-tests}
+use Rattle.verdict.proofs.Rejected.{as-solved, zero-accepts}
 
 -- ---- a solved card
 

@@ -25,11 +25,11 @@ use Rattle.conic.proofs.Arrival.{Arrives, arrives}
 use Rattle.entry.proofs.Passed.{entered}
 use Rattle.entry.proofs.Fair.{in-start-finite}
 use Rattle.kepler.specs.Kepler.{keplerOf}
 use Rattle.card.specs.declared.Kind.the-variants as kind
 use Rattle.card.specs.Fields.{problemOf, spareOf, xOf, refusalOf, lastSpareOf}
-use Rattle.card.specs.Said.{solved}
-use Rattle.card.specs.Verdict.{sameState, unfoldsTo, atX, solvedCard, isRefusedWith, refusedCard, verdictOn}
-use Rattle.card.proofs.StateWords.{stateWords, wordsOf, same-state}
+use Rattle.verdict.specs.Said.{solved}
+use Rattle.verdict.specs.Verdict.{sameState, unfoldsTo, atX, solvedCard, isRefusedWith, refusedCard, verdictOn}
+use Rattle.verdict.proofs.StateWords.{stateWords, wordsOf, same-state}
 
 -- ---- a solved card
 

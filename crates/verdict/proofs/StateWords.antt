@@ -12,8 +12,8 @@ use Rattle.exact.proofs.Basics.{both}
 use Rattle.words.specs.Words.{valueAt}
 use Rattle.conic.specs.declared.Vector.{Vector}
 use Rattle.conic.specs.declared.State.{State}
 use Rattle.card.specs.Fields.{positionAt, velocityAt}
-use Rattle.card.specs.Verdict.{sameWords, sameState}
+use Rattle.verdict.specs.Verdict.{sameWords, sameState}
 
 -- the six words of a body, in order, and those of a state
 abbrev pub stateWords : List ℕ → List ℕ

@@ -1,8 +1,8 @@
 -- `card::judge` meets its contract: each kind is one case of the definition.
-use Rattle.card.specs.Verdict.{verdictOn}
+use Rattle.verdict.specs.Verdict.{verdictOn}
 use borrow.Author.Needs.{needs}
-use Rattle.card.proofs.judge.Statement.{statement}
-use Rattle.card.proofs.judge.Tie as tie
+use Rattle.verdict.proofs.judge.Statement.{statement}
+use Rattle.verdict.proofs.judge.Tie as tie
 
 returns : tie.Need-returns
 unfolding verdictOn

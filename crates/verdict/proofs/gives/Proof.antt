@@ -1,8 +1,8 @@
 -- `card::gives` meets its contract: each answer is one case of the definition.
 use mathlib.Core.Path.{refl}
 use borrow.Author.Needs.{needs}
-use Rattle.card.proofs.gives.Statement.{statement}
-use Rattle.card.proofs.gives.Tie as tie
+use Rattle.verdict.proofs.gives.Statement.{statement}
+use Rattle.verdict.proofs.gives.Tie as tie
 
 returns-2 : tie.Need-returns-2
 returns-2 c = rw (c .number .ensures, c .before .before .outcome .given .1) refl

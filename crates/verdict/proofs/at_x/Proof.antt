@@ -4,10 +4,10 @@ use mathlib.Core.Bool.{_&&_}
 use borrow.Author.Tests.{not-true, not-false}
 use Rattle.exact.specs.Numbers.{_⊖_, magnitude, isNear}
 use Rattle.rows.specs.Rows.{must}
-use Rattle.card.specs.Verdict.{unfoldsTo, atX}
+use Rattle.verdict.specs.Verdict.{unfoldsTo, atX}
 use borrow.Author.Needs.{needs}
-use Rattle.card.proofs.at_x.Statement.{statement}
-use Rattle.card.proofs.at_x.Tie as tie
+use Rattle.verdict.proofs.at_x.Statement.{statement}
+use Rattle.verdict.proofs.at_x.Tie as tie
 
 returns : tie.Need-returns
 unfolding must atX

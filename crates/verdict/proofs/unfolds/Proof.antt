@@ -1,10 +1,10 @@
 -- `card::unfolds` meets its contract: each return is one way through the definition's row of tests.
 use mathlib.Core.Path.{refl}
 use Rattle.rows.specs.Rows.{must, onward}
-use Rattle.card.specs.Verdict.{unfoldsTo}
+use Rattle.verdict.specs.Verdict.{unfoldsTo}
 use borrow.Author.Needs.{needs}
-use Rattle.card.proofs.unfolds.Statement.{statement}
-use Rattle.card.proofs.unfolds.Tie as tie
+use Rattle.verdict.proofs.unfolds.Statement.{statement}
+use Rattle.verdict.proofs.unfolds.Tie as tie
 
 returns : tie.Need-returns
 unfolding onward unfoldsTo

@@ -4,10 +4,10 @@ use mathlib.Core.Bool.{_&&_}
 use lib.Dec.{eqb}
 use borrow.Author.Tests.{not-true, not-false}
 use Rattle.rows.specs.Rows.{pass, must}
-use Rattle.card.specs.Verdict.{refusedCard}
+use Rattle.verdict.specs.Verdict.{refusedCard}
 use borrow.Author.Needs.{needs}
-use Rattle.card.proofs.refused.Statement.{statement}
-use Rattle.card.proofs.refused.Tie as tie
+use Rattle.verdict.proofs.refused.Statement.{statement}
+use Rattle.verdict.proofs.refused.Tie as tie
 
 returns : tie.Need-returns
 unfolding must refusedCard

@@ -1,0 +1,7 @@
+pub mod StateWords
+pub mod Tests
+pub mod Rejected
+pub mod Accepted
+pub mod Made
+pub mod Theorems
+pub mod Fixed
