@@ -1,12 +1,13 @@
 /* Times the proved functions and the two builds of bench/baseline.c on the same problems and the same
- * deck, and holds their answers to each other bit by bit. Problems come from standard input.
+ * deck, and holds their answers to each other bit by bit. Problems come from standard input, and ROUNDS,
+ * how often each is timed, from whoever compiles it.
  * Status: 0 all agree, 1 a difference, 2 something is missing. */
 #include "timing.h"
 
 /* Of the C library too. */
 void exit(int status) __attribute__((noreturn));
 
-enum { PROBLEMS = 20000, ROUNDS = 15, CHECKS = 20 };
+enum { PROBLEMS = 20000, CHECKS = 20 };
 enum { DECK_SIZE = 8 + 12 * MOST_CARDS + SOLVED_SIZE * MOST_CARDS };
 enum { PREDICT, CHECK, KINDS };
 

@@ -5,12 +5,12 @@
 // deck's bytes and the list before. A refused deck leaves the list as it was lent. The crate assumes
 // nothing.
 use card::Kind;
-use verdict::Verdict;
 use contents::Contents;
 use contents::ENTRY;
 use contents::Entry;
 use contents::HEADER;
 use contents::Reason;
+use verdict::Verdict;
 ghost use mathlib.Core.Path.{_≡_};
 ghost use Prim.Native.Nat.{_≤_, _<_};
 ghost use lib.ListN.{length, set};

@@ -70,7 +70,7 @@ first-block b bytes e = ap (λ (k : ℕ). take k bytes) e ∙ go (leb b (length 
         let all : length bytes ≤ b = omega (arith, leb-false b (length bytes) f) in
         take-all (min b (length bytes)) bytes (omega arith) ∙ sym (take-all b bytes all)
 
--- the longest text of a block
+-- how long the text of a block is at most
 left-most : (bytes : List ℕ) → length (leftOver bytes) ≤ 6
 left-most [] = omega arith
 left-most (b ∷ bytes) = omega arith
@@ -87,7 +87,7 @@ text-most asked bytes h =
     let few : length bytes / widthOf asked ≤ blockRecords = div-le-of-le-mul (widthOf asked) (le-trans h (le-of-eq (mul-comm blockRecords (widthOf asked)))) in
     omega (arith, few, from-most asked (length bytes / widthOf asked) bytes)
 
--- the lines of records that are no more than a block, handed over in a buffer with room for the longest text
+-- the lines of records that are no more than a block, handed over in a buffer with room for the text of any block
 pub lines-found : (asked : Question) (bytes buffer : List ℕ) {after : List ℕ} {n : ℕ} → length bytes ≤ blockBytes asked → mostText ≤ length buffer
     → n ≡ length (linesOf asked (blockOf asked bytes)) → after ≡ handedIn (linesOf asked (blockOf asked bytes)) buffer → InFront (linesOf asked bytes) after n
 lines-found asked bytes buffer h room e held =

@@ -151,7 +151,10 @@ fn refused(body: &[u8]) -> Verdict
     if !((words::half(body, SPARE) == 0) & (words::half(body, LAST_SPARE) == 0)) {
         return Verdict::Rejected(Fault::SpareNotZero.number());
     }
-    if !gives(kepler::kepler(card::problem(body)), words::half(body, NUMBER)) {
+    if !gives(
+        kepler::kepler(card::problem(body)),
+        words::half(body, NUMBER),
+    ) {
         return Verdict::Rejected(Fault::NumberDiffers.number());
     }
     Verdict::Refused

@@ -7,6 +7,7 @@ use Rattle.kepler.specs.Kepler.{keplerOf}
 use Rattle.card.specs.Fields.{numberAt, problemOf}
 use Rattle.line.specs.declared.Question.the-variants as question
 use Rattle.line.specs.Line.{lineOf, rootLine, outcomeLine, turned}
+use Rattle.text.specs.Text.{Put}
 use Rattle.text.proofs.Puts.{renamed, both}
 use borrow.Author.Needs.{needs}
 use Rattle.line.proofs.line.Statement.{statement}
@@ -25,35 +26,28 @@ theta-of : (bytes : List ℕ) → lineOf question.Theta bytes ≡ outcomeLine (t
 unfolding lineOf
 theta-of bytes = refl
 
+-- the line of an answer s to the question p that was read, which is what is asked
+as-asked : {Q A : Type 0} (line : A → List ℕ) (answer : Q → A) {text before after : List ℕ} {at end : ℕ} {p q : Q} {s : A}
+    → text ≡ line (answer q) → p ≡ q → s ≡ answer p → Put before at (line s) after end → Put before at text after end
+as-asked line answer text-is p-is s-is = renamed (ap line (s-is ∙ ap answer p-is) ∙ sym text-is)
+
 returns : tie.Need-returns
 returns c =
-    let at1 = c .before .before in
-    let at2 = at1 .before .before in
-    let at3 = at2 .before in
-    let at4 = at3 .before in
-    let at5 = at4 .before .before .before .before in
-    let root = ap rootLine (at2 .root .ensures ∙ ap rootOf (at3 .number .ensures)) in
-    rw (at4 .enum-told .given .1) (both (renamed (root ∙ sym (root-of (at5 .args .s .now))) (at1 .root-line .ensures)))
+    let line = c .before .before in
+    let answer = line .before .before in
+    rw (answer .before .before .enum-told .given .1) (both (as-asked rootLine rootOf (root-of _) (answer .before .number .ensures) (answer .root .ensures) (line .root-line .ensures)))
 
 returns-2 : tie.Need-returns-2
 returns-2 c =
-    let at1 = c .before .before in
-    let at2 = at1 .before .before in
-    let at3 = at2 .before in
-    let at4 = at3 .before in
-    let at5 = at4 .before .before .before .before in
-    let state = ap outcomeLine (at2 .kepler .ensures ∙ ap keplerOf (at3 .problem .ensures)) in
-    rw (at4 .enum-told2 .given .1) (both (renamed (state ∙ sym (kepler-of (at5 .args .s .now))) (at1 .outcome-line .ensures)))
+    let line = c .before .before in
+    let answer = line .before .before in
+    rw (answer .before .before .enum-told2 .given .1) (both (as-asked outcomeLine keplerOf (kepler-of _) (answer .before .problem .ensures) (answer .kepler .ensures) (line .outcome-line .ensures)))
 
 returns-3 : tie.Need-returns-3
 returns-3 c =
-    let at1 = c .before .before in
-    let at2 = at1 .before .before in
-    let at3 = at2 .before in
-    let at4 = at3 .before in
-    let at5 = at4 .before .before .before .before in
-    let state = ap outcomeLine (at2 .turned .ensures ∙ ap turned (at3 .problem2 .ensures)) in
-    rw (at4 .enum-told3 .given .1) (both (renamed (state ∙ sym (theta-of (at5 .args .s .now))) (at1 .outcome-line2 .ensures)))
+    let line = c .before .before in
+    let answer = line .before .before in
+    rw (answer .before .before .enum-told3 .given .1) (both (as-asked outcomeLine turned (theta-of _) (answer .before .problem2 .ensures) (answer .turned .ensures) (line .outcome-line2 .ensures)))
 
 pub line-spec : {M : Type 1} → statement M
 line-spec =
