@@ -19,9 +19,10 @@ class Function:
         self.ensures = ensures  # the text of each clause
         self.uses = uses  # what `ghost use` brings: name -> (module, name there)
         parameters, self.answers = head  # .. and whether it has a result
+        parameters = re.sub(r"&\s+", "&", parameters)
         self.parameters = re.findall(r"(\w+): ", parameters) + ["self"] * bool(re.match(r"(mut )?self\b", parameters))
         self.references = re.findall(r"(\w+): &", parameters)
-        self.lent = re.findall(r"(\w+): &(?:'\w+ )?mut ", parameters)  # those lent to be written
+        self.lent = re.findall(r"(\w+): &(?:'\w+\s+)?mut\b", parameters)  # those lent to be written
 
 
 # ---- text
@@ -223,15 +224,15 @@ def equations_of(function, fault):
     return found
 
 
-def same_meaning(function, fault):
+def same_meaning(uses, parameters, fault):
     """What a contract is written with is the library's."""
-    if "_≡_" not in function.uses:
+    if "_≡_" not in uses:
         fault("no `ghost use` brings its ≡")
-    for name, (module, there) in function.uses.items():
+    for name, (module, there) in uses.items():
         if name in LIBRARY and (module, there) != (LIBRARY[name], name):
             fault(f"its {name} is the {there} of {module}, and not that of {LIBRARY[name]}")
         elif name == "now" or (name not in LIBRARY and not re.fullmatch(r"([^\W_]|[·'-])+\.?", name)):
             fault(f"`ghost use` brings a {name} of its own")
-    for name in function.parameters:
-        if name == "now" or name in function.uses:
+    for name in parameters:
+        if name == "now" or name in uses:
             fault(f"the parameter {name} hides another meaning")

@@ -157,7 +157,7 @@ int main(void)
         compare_answers(&contenders[0], &contenders[k]);
     printf("%d problems, %lu of them solved, and a deck of %d solved cards: the three agree on all\n",
         PROBLEMS, (unsigned long)solved, MOST_CARDS);
-    printf("median of %d rounds\n", ROUNDS);
+    printf("rounds: %d; each figure is a median\n", ROUNDS);
     print_times("predict, time per problem", PREDICT);
     print_times("check, time per card", CHECK);
     return 0;

@@ -14,10 +14,10 @@ use Rattle.contents.specs.Contents.{entryAt, versionOf, countOf, cardsFr
 use Rattle.contents.proofs.Cards.{KindsFrom, kinds-named}
 
 -- a refusal is found where the cards are counted
-pub refused-before : (count : ℕ) (m : Checked (List Card)) (k : ℕ) → counting count m ≡ refuse k → m ≡ refuse k
+pub counting-refused : (count : ℕ) (m : Checked (List Card)) (k : ℕ) → counting count m ≡ refuse k → m ≡ refuse k
 unfolding onward
-refused-before count (pass cards) k h = absurd (true≢false cc)
-refused-before count (refuse n) k h = cc
+counting-refused count (pass cards) k h = absurd (true≢false cc)
+counting-refused count (refuse n) k h = cc
 
 pub record Opened (deck : List ℕ) (count : ℕ) : Type 0 where
   pub is : count ≡ countOf deck

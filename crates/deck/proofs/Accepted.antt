@@ -13,14 +13,14 @@ use lib.Seq.{take-at, drop-at}
 use Rattle.rows.specs.Rows.{Checked, pass, refuse, must, onward}
 use Rattle.rows.proofs.Laws.{pass-once, test-passed, rows-passed}
 use Rattle.card.specs.Fields.{Card}
+use Rattle.contents.specs.Contents.{countOf, cardsOf}
+use Rattle.contents.proofs.Sizes.{few-cards}
 use Rattle.verdict.specs.Said.{Said, numberIn}
 use Rattle.verdict.specs.Verdict.{verdictOn}
 use Rattle.deck.specs.declared.Totals.{Totals}
-use Rattle.contents.specs.Contents.{entryAt, countOf, cardsOf}
 use Rattle.deck.specs.Tally.{Residuals, tallyOf}
 use Rattle.deck.specs.Check.{verdictsOf, numbersOf, judgedOf, tallied, answerOf, written, listAfter}
 use Rattle.deck.proofs.Tallied.{totals-add-up}
-use Rattle.contents.proofs.Sizes.{few-cards}
 
 -- ---- an accepted deck: its cards, a verdict for each, and room for them
 

@@ -2,7 +2,7 @@
 -- from there on, they give the tally and the list of the whole deck.
 use mathlib.Core.Path.{_≡_, refl, sym, ap, _∙_, subst}
 use mathlib.Core.Bool.{true≢false}
-use mathlib.Core.List.{List, [], _∷_, _++_, map}
+use mathlib.Core.List.{List, [], _∷_, _++_}
 use Prim.Native.Nat.{ℕ, suc, _+_, _-_, _≤_, _<_}
 use native.Mathlib.Nat.{zero-add, add-zero, le-of-eq}
 use native.Mathlib.Numerals.{add-one}
@@ -14,14 +14,14 @@ use Rattle.rows.specs.Rows.{pass, refuse, onward}
 use Rattle.rows.proofs.Laws.{pass-once}
 use Rattle.card.specs.declared.Kind.{Kind}
 use Rattle.card.specs.Fields.{Card, sizeOf}
+use Rattle.contents.specs.Contents.{entryAt, entryIn, cardsFrom, Passes}
+use Rattle.contents.proofs.Cards.{cardAt, entry-inside, one-more, come-to-cards, no-more, as-many}
 use Rattle.verdict.specs.Said.{Said, numberIn}
 use Rattle.verdict.specs.Verdict.{verdictOn}
 use Rattle.deck.specs.declared.tally.Running.{Running}
-use Rattle.contents.specs.Contents.{entryAt, entryIn, cardsFrom, Passes}
 use Rattle.deck.specs.Tally.{nothing, counted, countedAll, residualsOf, totalsOf}
 use Rattle.deck.specs.Check.{verdictsOf, numbersOf, judgedFrom, tallied, written}
 use Rattle.deck.proofs.Tallied.{totalOf, one-counted}
-use Rattle.contents.proofs.Cards.{cardAt, entry-inside, one-more, come-to-cards, no-more, as-many}
 
 -- while an entry is left, the part of the list that is lent on has a place
 pub some-left : (i : ℕ) (list : List ℕ) → i < length list → 0 < length (take (length list - i) (drop i list))

@@ -7,7 +7,7 @@ use lib.ListN.{length}
 use Rattle.rows.specs.Rows.{refuse, must, onward}
 use Rattle.contents.specs.Contents.{entryAt, countOf, cardsFrom, cardsOf, counting}
 use Rattle.contents.proofs.Cards.{come-to-cards}
-use Rattle.contents.proofs.Opened.{refused-before, Opened}
+use Rattle.contents.proofs.Opened.{counting-refused, Opened}
 use Rattle.deck.specs.Check.{judgedFrom, judgedOf, tallied, answerOf, written, listAfter}
 
 -- a check that comes to a refusal hands out the number and leaves the list
@@ -17,7 +17,7 @@ judged-refused deck list k h = (rw h refl, rw h refl)
 
 pub contents-refused : (deck list : List ℕ) (k : ℕ) → counting (countOf deck) (cardsOf deck) ≡ refuse k → (refuse k ≡ answerOf deck (length list)) × (list ≡ listAfter deck list)
 unfolding onward judgedOf
-contents-refused deck list k h = judged-refused deck list k (rw (refused-before (countOf deck) (cardsOf deck) k h) refl)
+contents-refused deck list k h = judged-refused deck list k (rw (counting-refused (countOf deck) (cardsOf deck) k h) refl)
 
 module _ (deck : List ℕ) (count : ℕ) (o : Opened deck count) (list : List ℕ) where
   too-short : length list < count → judgedOf deck (length list) ≡ refuse 39

@@ -5,10 +5,10 @@ use lib.Dec.{leb}
 use lib.ListN.{length, drop}
 use Rattle.rows.specs.Rows.{Checked, pass, refuse, must, onward}
 use Rattle.card.specs.Fields.{Card}
+use Rattle.contents.specs.Contents.{entryAt, countOf, cardsFrom, cardsOf}
 use Rattle.verdict.specs.Said.{Said, numberIn}
 use Rattle.verdict.specs.Verdict.{verdictOn}
 use Rattle.deck.specs.declared.Totals.{Totals}
-use Rattle.contents.specs.Contents.{entryAt, countOf, cardsFrom, cardsOf}
 use Rattle.deck.specs.Tally.{Residuals, tallyOf}
 
 -- a verdict for each card, in deck order

@@ -14,9 +14,9 @@ use verdict::Verdict;
 ghost use mathlib.Core.Path.{_≡_};
 ghost use Prim.Native.Nat.{_≤_, _<_};
 ghost use lib.ListN.{length, set};
+ghost use Rattle.contents.specs.Contents.{entryAt, cardsFrom, Passes};
 ghost use Rattle.verdict.specs.Said as judge;
 ghost use Rattle.verdict.specs.Verdict.{verdictOn};
-ghost use Rattle.contents.specs.Contents.{entryAt, cardsFrom, Passes};
 ghost use Rattle.deck.specs.Said.{said};
 ghost use Rattle.deck.specs.Check.{judgedFrom, tallied, answerOf, written, listAfter};
 

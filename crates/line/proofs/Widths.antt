@@ -24,7 +24,7 @@ width-most question.Root = omega arith
 width-most question.Kepler = omega arith
 width-most question.Theta = omega arith
 
--- the longest line
+-- how long a line is at most
 root-most : (s : root.Said) → length (rootLine s) ≤ mostLine
 root-most (root.root x) = simp (length-append, length-number x) (omega arith)
 root-most (root.refused k) = simp length-append (omega (arith, length-count k))

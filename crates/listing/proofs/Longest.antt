@@ -9,23 +9,23 @@ use borrow.Author.Tests.{ltb-true, ltb-false}
 use lib.Dec.{ltb}
 use lib.Ieee.{Float}
 use lib.ListN.{length, length-append, length-map}
-use Rattle.text.specs.Text.{text, joined, decimal, count, handedIn}
+use Rattle.text.specs.Text.{decimal, handedIn}
 use Rattle.text.proofs.Puts.{InFront, found}
 use Rattle.text.proofs.Length.{length-under, length-self, length-number, length-count}
 use Rattle.rows.specs.Rows.{Checked, pass, refuse}
 use Rattle.card.specs.declared.Kind.{Kind}
 use Rattle.card.specs.declared.Kind.the-variants as kind
 use Rattle.card.specs.Fields.{Card}
+use Rattle.contents.specs.Contents.{cardsOf, readOfADeck}
+use Rattle.contents.proofs.Sizes.{few-cards, read-is-enough}
 use Rattle.verdict.specs.Said.{Said, solved, refused, rejected, numberIn}
 use Rattle.verdict.specs.Verdict.{verdictOn}
 use Rattle.verdict.proofs.Rejected.{rejected-numbered}
 use Rattle.verdict.proofs.Accepted.{never-solved}
 use Rattle.deck.specs.declared.Totals.{Totals}
-use Rattle.contents.specs.Contents.{cardsOf, readOfADeck}
 use Rattle.deck.specs.Tally.{nothing, counted, countedAll, Residuals, absent, known, residualsOf, totalsOf}
 use Rattle.deck.specs.Check.{verdictsOf}
 use Rattle.deck.proofs.Tallied.{totals-add-up, first-and-others, known-is}
-use Rattle.contents.proofs.Sizes.{few-cards, read-is-enough}
 use Rattle.listing.specs.Listing.{placedLine, cardLine, cardLines, totalsLine, residualLines, acceptedLines, linesFor, listingOf, longestListing}
 
 -- ---- the digits of the places

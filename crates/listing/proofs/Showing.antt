@@ -17,9 +17,9 @@ use Rattle.rows.proofs.Laws.{pass-once}
 use Rattle.card.specs.declared.Kind.{Kind}
 use Rattle.card.specs.Fields.{Card}
 use Rattle.contents.specs.Contents.{kindAt, cardsOf}
-use Rattle.deck.specs.Check.{numbersOf}
 use Rattle.contents.proofs.Cards.{KindsFrom}
 use Rattle.contents.proofs.Opened.{all-kinds-named}
+use Rattle.deck.specs.Check.{numbersOf}
 use Rattle.listing.specs.Listing.{verdictNumber, placedLine, cardLine, cardLines}
 use Rattle.listing.specs.Judged.{Judged}
 

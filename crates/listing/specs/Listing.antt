@@ -6,10 +6,10 @@ use Rattle.rows.specs.Rows.{Checked, pass, refuse}
 use Rattle.card.specs.declared.Kind.{Kind}
 use Rattle.card.specs.declared.Kind.the-variants as kind
 use Rattle.card.specs.Fields.{Card}
+use Rattle.contents.specs.Contents.{cardsOf}
 use Rattle.verdict.specs.Said.{numberIn}
 use Rattle.verdict.specs.Verdict.{verdictOn}
 use Rattle.deck.specs.declared.Totals.{Totals}
-use Rattle.contents.specs.Contents.{cardsOf}
 use Rattle.deck.specs.Tally.{Residuals, absent, known, tallyOf}
 use Rattle.deck.specs.Check.{verdictsOf}
 

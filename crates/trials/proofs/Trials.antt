@@ -13,12 +13,12 @@ use Rattle.conic.specs.Unfolding.{unfolded, arrivalOf, arrivalAt}
 use Rattle.entry.specs.Entry.{inputsTested, rooted, radiusOf, unitOf, testedBy, scaledBy, scaledOf, farEndOf, bracketedBy, startOf, entryOf}
 use Rattle.kepler.specs.Kepler.{arrivedAt, foundIn, keplerOf}
 use Rattle.words.specs.Words.{value, valueAt, bytesOf}
+use Rattle.text.specs.Text.{decimal, hex}
 use Rattle.card.specs.Fields.{kindOf, sizeOf, problemOf}
 use Rattle.card.specs.Made.{numbersBytes}
-use Rattle.verdict.specs.Verdict.{unfoldsTo, atX, solvedCard, refusedCard, verdictOn}
 use Rattle.contents.specs.Contents.{entryIn, cardsFrom, cardsOf}
+use Rattle.verdict.specs.Verdict.{unfoldsTo, atX, solvedCard, refusedCard, verdictOn}
 use Rattle.deck.specs.Tally.{countedAll, residualsOf}
-use Rattle.text.specs.Text.{decimal, hex}
 use Rattle.listing.specs.Listing.{cardLines, listingOf}
 use Rattle.trials.specs.Table.{AllHold, table}
 

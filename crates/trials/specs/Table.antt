@@ -18,8 +18,8 @@ use Rattle.conic.specs.Unfolding.{stateAt}
 use Rattle.entry.specs.Entry.{sixtyFour, eight, entryOf}
 use Rattle.kepler.specs.Kepler.{keplerOf}
 use Rattle.words.specs.Words.{bytesOf}
-use Rattle.card.specs.Made.{problemBytes, solvedBody, refusedBody}
 use Rattle.text.specs.Text.{text, joined}
+use Rattle.card.specs.Made.{problemBytes, solvedBody, refusedBody}
 use Rattle.listing.specs.Listing.{listingOf}
 
 -- a trial: what is tried, and what it has to give

@@ -24,12 +24,12 @@ use Rattle.kepler.specs.Kepler.{keplerOf}
 use Rattle.kepler.proofs.Laws.{RefusalNumbered, refusal-numbered, IsSolved, solved-means}
 use Rattle.card.specs.declared.Kind.the-variants as kind
 use Rattle.card.specs.Fields.{sizeOf, problemOf, spareOf, xOf, refusalOf, lastSpareOf}
+use Rattle.card.specs.Made.{numbersBytes, problemBytes, spare, solvedBody, refusedBody, cardFor}
+use Rattle.card.proofs.Numbers.{AllFit, length-numbers, word-at, number-at}
 use Rattle.verdict.specs.Said.{numberIn}
 use Rattle.verdict.specs.Verdict.{isRefusedWith, asRefused, verdictOn}
-use Rattle.card.specs.Made.{numbersBytes, problemBytes, spare, solvedBody, refusedBody, cardFor}
 use Rattle.verdict.proofs.StateWords.{stateWords, wordsOf}
 use Rattle.verdict.proofs.Tests.{solved-passes, refused-tests}
-use Rattle.card.proofs.Numbers.{AllFit, length-numbers, word-at, number-at}
 
 -- the numbers of a solved answer
 abbrev answer : Float → State → List Float

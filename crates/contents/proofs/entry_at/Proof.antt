@@ -1,7 +1,6 @@
 -- `contents::entry_at` meets its contract: each return is one way through the definition's row of tests.
 use mathlib.Core.Path.{_≡_, refl}
 use Prim.Native.Nat.{_+_}
-use native.Mathlib.Omega.{arith}
 use borrow.Author.Tests.{eq-eqb, ne-eqb, le-leb, lt-leb}
 use lib.Dec.{eqb, leb}
 use lib.ListN.{length}

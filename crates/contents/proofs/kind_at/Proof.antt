@@ -1,4 +1,4 @@
--- `deck::kind_at` meets its contract: the kind of the number that stands in the entry.
+-- `contents::kind_at` meets its contract: the kind of the number that stands in the entry.
 use mathlib.Core.Path.{refl, _∙_}
 use borrow.Author.Needs.{needs}
 use Rattle.contents.proofs.kind_at.Statement.{statement}

@@ -6,11 +6,11 @@ use native.Mathlib.Omega.{arith}
 use borrow.Author.Needs.{needs}
 use lib.ListN.{length}
 use Rattle.rows.specs.Rows.{pass}
-use Rattle.verdict.specs.Said.{said}
-use Rattle.deck.specs.declared.tally.Running.{Running}
 use Rattle.contents.specs.Said.{reasonNumber, entered}
 use Rattle.contents.specs.Contents.{entryAt, entryIn}
 use Rattle.contents.proofs.Cards.{entry-inside}
+use Rattle.verdict.specs.Said.{said}
+use Rattle.deck.specs.declared.tally.Running.{Running}
 use Rattle.deck.proofs.Going.{Going, some-left, start, never-refused, turn, answer-is, list-is}
 use Rattle.deck.proofs.judged.Statement.{statement}
 use Rattle.deck.proofs.judged.Tie as tie

@@ -9,10 +9,10 @@ use lib.ListN.{replicate}
 use Rattle.text.specs.Text.{joined}
 use Rattle.text.proofs.Puts.{puts, last, renamed}
 use Rattle.rows.specs.Rows.{refuse}
-use Rattle.deck.specs.declared.Totals.{Totals}
 use Rattle.contents.specs.Contents.{cardsOf}
-use Rattle.deck.specs.Tally.{Residuals}
 use Rattle.contents.specs.Said.{reasonNumber}
+use Rattle.deck.specs.declared.Totals.{Totals}
+use Rattle.deck.specs.Tally.{Residuals}
 use Rattle.deck.specs.Said.{told, said}
 use Rattle.deck.specs.Check.{listAfter}
 use Rattle.deck.proofs.Accepted.{Answered, answered, refused-contents}

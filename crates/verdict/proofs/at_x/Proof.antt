@@ -1,4 +1,4 @@
--- `card::at_x` meets its contract: each return is one way through the definition's row of tests.
+-- `verdict::at_x` meets its contract: each return is one way through the definition's row of tests.
 use mathlib.Core.Path.{_≡_, refl, _∙_}
 use mathlib.Core.Bool.{_&&_}
 use borrow.Author.Tests.{not-true, not-false}

@@ -1,4 +1,4 @@
--- `card::gives` meets its contract: each answer is one case of the definition.
+-- `verdict::gives` meets its contract: each answer is one case of the definition.
 use mathlib.Core.Path.{refl}
 use borrow.Author.Needs.{needs}
 use Rattle.verdict.proofs.gives.Statement.{statement}

@@ -1,4 +1,4 @@
--- `card::judge` meets its contract: each kind is one case of the definition.
+-- `verdict::judge` meets its contract: each kind is one case of the definition.
 use Rattle.verdict.specs.Verdict.{verdictOn}
 use borrow.Author.Needs.{needs}
 use Rattle.verdict.proofs.judge.Statement.{statement}

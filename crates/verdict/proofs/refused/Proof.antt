@@ -1,4 +1,4 @@
--- `card::refused` meets its contract: each return is one way through the definition's row of tests.
+-- `verdict::refused` meets its contract: each return is one way through the definition's row of tests.
 use mathlib.Core.Path.{_≡_, refl}
 use mathlib.Core.Bool.{_&&_}
 use lib.Dec.{eqb}

@@ -1,4 +1,4 @@
--- `card::same` meets its contract: what the two functions `word` ensure, three times.
+-- `verdict::same` meets its contract: what the two functions `word` ensure, three times.
 use mathlib.Core.Path.{refl}
 use borrow.Author.Needs.{needs}
 use Rattle.verdict.proofs.same.Statement.{statement}

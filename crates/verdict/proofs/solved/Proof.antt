@@ -1,4 +1,4 @@
--- `card::solved` meets its contract: the spare, the entry's refusal, or what x comes to.
+-- `verdict::solved` meets its contract: the spare, the entry's refusal, or what x comes to.
 use mathlib.Core.Path.{_≡_, refl, ap, _∙_}
 use borrow.Author.Tests.{ne-eqb, eq-eqb}
 use Rattle.rows.specs.Rows.{must, onward}

@@ -1,4 +1,4 @@
--- `card::unfolds` meets its contract: each return is one way through the definition's row of tests.
+-- `verdict::unfolds` meets its contract: each return is one way through the definition's row of tests.
 use mathlib.Core.Path.{refl}
 use Rattle.rows.specs.Rows.{must, onward}
 use Rattle.verdict.specs.Verdict.{unfoldsTo}
