@@ -1,8 +1,8 @@
 // A card's bytes: its kind, the size of its body, and the fields that stand in it. docs/RULES.md, The
 // deck.
 //
-// What was sent is read as words, and the numbers that they stand for. Every function here is proved,
-// the public ones are total, and the crate assumes nothing.
+// What was sent is read as words, and computed with as the numbers that they stand for. Every
+// function here is proved, the public ones are total, and the crate assumes nothing.
 use conic::Problem;
 use conic::Vector;
 ghost use mathlib.Core.Path.{_≡_};

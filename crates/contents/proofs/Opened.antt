@@ -1,5 +1,5 @@
--- What the tests of a deck's contents tell: contents that are refused come to no cards, and of contents that pass, count, room for the
--- entries, and the cards from the first entry on.
+-- What the tests of a deck's contents tell: contents that are refused come to no cards; contents that pass have at most 256, which are the
+-- cards from the first entry on.
 use mathlib.Core.Path.{_≡_, refl, sym, subst, _∙_}
 use mathlib.Core.Bool.{true≢false}
 use mathlib.Core.List.{List}
@@ -13,7 +13,7 @@ use Rattle.card.specs.Fields.{Card}
 use Rattle.contents.specs.Contents.{entryAt, versionOf, countOf, cardsFrom, cardsOf, counting, Passes}
 use Rattle.contents.proofs.Cards.{KindsFrom, kinds-named}
 
--- a refusal is found where the cards are counted
+-- a count that is refused is the refusal of the contents
 pub counting-refused : (count : ℕ) (m : Checked (List Card)) (k : ℕ) → counting count m ≡ refuse k → m ≡ refuse k
 unfolding onward
 counting-refused count (pass cards) k h = absurd (true≢false cc)
@@ -22,7 +22,6 @@ counting-refused count (refuse n) k h = cc
 pub record Opened (deck : List ℕ) (count : ℕ) : Type 0 where
   pub is : count ≡ countOf deck
   pub most : count ≤ 256
-  pub inside : entryAt count ≤ length deck
   pub cards-are : cardsOf deck ≡ cardsFrom deck count 0 (entryAt count)
   pub passes : Passes (cardsFrom deck count 0 (entryAt count))
 
@@ -40,7 +39,6 @@ opened deck count h =
     rw (← is) (record {
       is = refl;
       most = leb-true n 256 (third .0);
-      inside = leb-true (entryAt n) (length deck) (fourth .0);
       cards-are = P .1 ∙ sym (fourth .1);
       passes = subst Passes (sym (fourth .1)) tt;
     })

@@ -9,15 +9,13 @@ use Rattle.rows.specs.Rows.{Checked, pass, refuse, must, onward}
 use Rattle.card.specs.declared.Kind.{Kind}
 use Rattle.card.specs.Fields.{Card, sizeOf}
 use Rattle.contents.specs.Contents.{entryAt, entryIn, cardsFrom, counting}
-use Rattle.contents.proofs.Cards.{cardAt, entry-inside, and-rest, cards-are}
+use Rattle.contents.proofs.Cards.{cardAt, and-rest, cards-are}
 
 pub record Walking (deck : List ℕ) (count i at : ℕ) : Type 0 where
-  pub few : i ≤ count
-  pub inside : at ≤ length deck
   pub same : counting count (cardsFrom deck (count - i) i at) ≡ counting count (cardsFrom deck count 0 (entryAt count))
 
-pub set-out : (deck : List ℕ) (count : ℕ) → entryAt count ≤ length deck → Walking deck count 0 (entryAt count)
-set-out deck count h = let none-yet : count - 0 ≡ count = omega arith in record { few = omega arith; inside = h; same = rw none-yet refl }
+pub set-out : (deck : List ℕ) (count : ℕ) → Walking deck count 0 (entryAt count)
+set-out deck count = let none-yet : count - 0 ≡ count = omega arith in record { same = rw none-yet refl }
 
 module _ {deck : List ℕ} {count i at : ℕ} (w : Walking deck count i at) where
   -- while an entry is left, the whole comes to that entry and the rest
@@ -39,8 +37,6 @@ module _ {deck : List ℕ} {count i at : ℕ} (w : Walking deck count i at) wher
   pub walk-on : (kind : Kind) → i < count → entryIn deck i at ≡ pass kind → Walking deck count (i + 1) (at + sizeOf kind)
   unfolding onward
   walk-on kind h e = record {
-    few = omega arith;
-    inside = entry-inside deck i at kind e;
     same = behind (cardsFrom deck (count - (i + 1)) (i + 1) (at + sizeOf kind)) (cardAt deck kind at) ∙ sym (ap (λ m. counting count (onward m (and-rest deck (count - (i + 1)) i at))) e) ∙ by-entry h;
   }
 

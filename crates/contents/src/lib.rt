@@ -5,8 +5,6 @@
 use card::Kind;
 use card::Named;
 ghost use mathlib.Core.Path.{_≡_};
-ghost use Prim.Native.Nat.{_≤_};
-ghost use lib.ListN.{length};
 ghost use Rattle.card.specs.Said as card;
 ghost use Rattle.contents.specs.Said.{reasonNumber, entered, listed};
 ghost use Rattle.contents.specs.Contents.{entryAt, countOf, kindAt, entryIn, cardsFrom, cardsOf, counting};
@@ -66,6 +64,7 @@ pub enum Contents {
     Refused(Reason),
 }
 
+// How many cards there are, once all tests of the contents are passed.
 pub fn tested(deck: &[u8]) -> Contents
     ensures { λ r. ⌜ listed r ≡ counting (countOf (now (deck .entry))) (cardsOf (now (deck .entry))) ⌝ }
 {
@@ -87,7 +86,6 @@ pub fn tested(deck: &[u8]) -> Contents
 
 // Each entry in turn, then the bytes left over.
 fn entries_tested(deck: &[u8], count: u32) -> Contents
-    requires { ⌜ entryAt count ≤ length (now deck) ⌝ }
     ensures { λ r. ⌜ listed r ≡ counting count (cardsFrom (now (deck .entry)) count 0 (entryAt count)) ⌝ }
 {
     let mut i = 0;

@@ -15,7 +15,7 @@ use Rattle.rows.proofs.Laws.{pass-once}
 use Rattle.card.specs.declared.Kind.{Kind}
 use Rattle.card.specs.Fields.{Card, sizeOf}
 use Rattle.contents.specs.Contents.{entryAt, entryIn, cardsFrom, Passes}
-use Rattle.contents.proofs.Cards.{cardAt, entry-inside, one-more, come-to-cards, no-more, as-many}
+use Rattle.contents.proofs.Cards.{cardAt, one-more, come-to-cards, no-more, as-many}
 use Rattle.verdict.specs.Said.{Said, numberIn}
 use Rattle.verdict.specs.Verdict.{verdictOn}
 use Rattle.deck.specs.declared.tally.Running.{Running}
@@ -32,18 +32,16 @@ pub record Going (deck : List ℕ) (count : ℕ) (before list : List ℕ) (i at 
   pub whole : cardsFrom deck count 0 (entryAt count) ≡ pass all
   pub rest : List Card
   pub left : cardsFrom deck (count - i) i at ≡ pass rest
-  pub few : i ≤ count
-  pub inside : at ≤ length deck
   pub tally : countedAll n (verdictsOf rest) ≡ countedAll nothing (verdictsOf all)
   pub written-on : sets list i (numbersOf rest) ≡ sets before 0 (numbersOf all)
   pub as-long : length list ≡ length before
   pub total : totalOf n ≡ i
 
-pub start : (deck : List ℕ) (count : ℕ) (before : List ℕ) → entryAt count ≤ length deck → Passes (cardsFrom deck count 0 (entryAt count)) → Going deck count before before 0 (entryAt count) nothing
-start deck count before h p =
+pub start : (deck : List ℕ) (count : ℕ) (before : List ℕ) → Passes (cardsFrom deck count 0 (entryAt count)) → Going deck count before before 0 (entryAt count) nothing
+start deck count before p =
     let w = come-to-cards (cardsFrom deck count 0 (entryAt count)) p in
     let none-yet : count - 0 ≡ count = omega arith in
-    record { all = w .0; whole = w .1; rest = w .0; left = rw none-yet (w .1); few = omega arith; inside = h; tally = refl; written-on = refl; as-long = refl; total = refl }
+    record { all = w .0; whole = w .1; rest = w .0; left = rw none-yet (w .1); tally = refl; written-on = refl; as-long = refl; total = refl }
 
 module _ {deck : List ℕ} {count : ℕ} {before list : List ℕ} {i at : ℕ} {n : Running} (g : Going deck count before list i at n) where
   -- while an entry is left, it passes, and its card is the next one
@@ -68,8 +66,6 @@ module _ {deck : List ℕ} {count : ℕ} {before list : List ℕ} {i at : ℕ} {
         whole = g .whole;
         rest = m .rest;
         left = subst (λ (k : Kind). cardsFrom deck (count - (i + 1)) (i + 1) (at + sizeOf k) ≡ pass (m .rest)) same (m .others);
-        few = omega arith;
-        inside = entry-inside deck i at kind e;
         tally = sym (ap (λ (r : List Card). countedAll n (verdictsOf r)) rest-is) ∙ g .tally;
         written-on = ap (λ (k : ℕ). sets (set list i (numberIn v)) k (numbersOf (m .rest))) (add-one i) ∙ sym (ap (λ (r : List Card). sets list i (numbersOf r)) rest-is) ∙ g .written-on;
         as-long = length-set list i (numberIn v) ∙ g .as-long;

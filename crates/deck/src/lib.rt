@@ -59,7 +59,7 @@ pub fn check(deck: &[u8], verdicts: &mut [u32]) -> Answer
 
 // A verdict for each card of a deck whose contents passed, and the tally. No entry is refused here.
 fn judged(deck: &[u8], count: u32, verdicts: &mut [u32]) -> Answer
-    requires { ⌜ (count ≤ 256) × (entryAt count ≤ length (now deck)) × (count ≤ length (now verdicts)) ⌝ }
+    requires { ⌜ (count ≤ 256) × (count ≤ length (now verdicts)) ⌝ }
     requires { ⌜ Passes (cardsFrom (now deck) count 0 (entryAt count)) ⌝ }
     ensures { λ r. ⌜ said r ≡ tallied (judgedFrom (now (deck .entry)) count) ⌝ }
     ensures { λ r. ⌜ now (verdicts .exit) ≡ written (judgedFrom (now (deck .entry)) count) (now (verdicts .entry)) ⌝ }

@@ -19,7 +19,7 @@ abbrev μ-loop : tie.MeasureT-loop
 μ-loop deck count i₀ at₀ i at = count - i
 
 loop-holds : tie.Need-loop-holds Inv-loop μ-loop
-loop-holds c = set-out (c .before .args .deck .now) (c .before .args .count) (c .before .pre)
+loop-holds c = set-out (c .before .args .deck .now) (c .before .args .count)
 
 returns : tie.Need-returns Inv-loop μ-loop
 returns c = entry-refused (c .before .before .before .before .before .loop .inv) (reasonNumber (c .before .why .given .0 .0)) (omega arith) (sym (c .before .before .before .entry-at .ensures) ∙ ap entered (c .before .why .given .1))
@@ -34,9 +34,6 @@ room c = rw (c .size .ensures) (entry-inside (c .before .before .before .before 
 add-at-2 : tie.Need-add-at-2 Inv-loop μ-loop
 add-at-2 c = omega (arith, room c)
 
-add-i : tie.Need-add-i Inv-loop μ-loop
-add-i c = omega (arith, c .before .before .before .before .before .before .loop .inv .few)
-
 loop-again : tie.Need-loop-again Inv-loop μ-loop
 loop-again c = subst (λ (n : ℕ). Walking (c .before .before .before .before .before .before .before .before .args .deck .now) (c .before .before .before .before .before .before .before .before .args .count) (c .before .before .before .before .before .before .loop .i + 1) (c .before .before .before .before .before .before .loop .at + n)) (sym (c .size .ensures)) (walk-on (c .before .before .before .before .before .before .loop .inv) (c .before .before .kind .given .0 .0) (omega arith) (passed (c)))
 
@@ -47,4 +44,4 @@ returns-3 : tie.Need-returns-3 Inv-loop μ-loop
 returns-3 c = all-read (c .before .before .loop .inv) (omega arith) (c .if1 .left)
 
 pub entries-tested-spec : {M : Type 1} → statement M
-entries-tested-spec = tie.close (tie.spec Inv-loop μ-loop (λ c. omega arith) (λ c. omega arith) loop-holds (λ c κs. search needs) (λ c. search needs) returns (λ c. search needs) (λ c κs. search needs) add-at-2 add-i (λ c. omega arith) loop-again returns-2 returns-3)
+entries-tested-spec = tie.close (tie.spec Inv-loop μ-loop (λ c. omega arith) (λ c. omega arith) loop-holds (λ c κs. search needs) (λ c. search needs) returns (λ c. search needs) (λ c κs. search needs) add-at-2 (λ c. omega arith) (λ c. omega arith) loop-again returns-2 returns-3)

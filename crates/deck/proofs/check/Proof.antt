@@ -15,7 +15,7 @@ returns : tie.Need-returns
 returns c = list-too-short (c .before .before .before .before .before .before .before .args .deck .now) (c .before .before .count .given .0 .0) (passed (c .before .before)) (c .before .before .before .before .before .before .before .args .verdicts .now) (c .if1 .taken)
 
 judged-requires : tie.Need-judged-requires
-judged-requires c κs = let o = passed (c .before .before .before) in ((o .most, o .inside, c .before .if1 .left), o .passes)
+judged-requires c κs = let o = passed (c .before .before .before) in ((o .most, c .before .if1 .left), o .passes)
 
 returns-2 : tie.Need-returns-2
 returns-2 c = contents-refused (c .before .before .before .before .before .before .args .deck .now) (c .before .before .before .before .before .before .args .verdicts .now) (reasonNumber (c .before .why .given .0 .0)) (sym (c .before .before .before .tested .ensures) ∙ ap listed (c .before .why .given .1))

@@ -22,7 +22,7 @@ abbrev μ-loop : tie.MeasureT-loop
 μ-loop deck count verdicts₀ i₀ at₀ running₀ verdicts i at running = count - i
 
 loop-holds : tie.Need-loop-holds Inv-loop μ-loop
-loop-holds c = subst (λ (n : Running). Going (c .before .before .before .args .deck .now) (c .before .before .before .args .count) (c .before .before .before .args .verdicts .now) (c .before .before .before .args .verdicts .now) 0 (entryAt (c .before .before .before .args .count)) n) (sym (c .none .ensures)) (start (c .before .before .before .args .deck .now) (c .before .before .before .args .count) (c .before .before .before .args .verdicts .now) (c .before .before .before .pre .0 .1) (c .before .before .before .pre .1))
+loop-holds c = subst (λ (n : Running). Going (c .before .before .before .args .deck .now) (c .before .before .before .args .count) (c .before .before .before .args .verdicts .now) (c .before .before .before .args .verdicts .now) 0 (entryAt (c .before .before .before .args .count)) n) (sym (c .none .ensures)) (start (c .before .before .before .args .deck .now) (c .before .before .before .args .count) (c .before .before .before .args .verdicts .now) (c .before .before .before .pre .1))
 
 same-length : tie.Need-same-length Inv-loop μ-loop
 same-length c = c .before .before .before .before .before .loop .inv .as-long
@@ -38,7 +38,7 @@ room : (c : tie.After-size Inv-loop μ-loop) → c .before .before .before .befo
 room c = rw (c .size .ensures) (entry-inside (c .before .before .before .before .before .before .before .before .before .before .args .deck .now) (c .before .before .before .before .before .before .loop .i) (c .before .before .before .before .before .before .loop .at) (c .before .before .kind .given .0 .0) (passed c))
 
 place : (c : tie.After-size Inv-loop μ-loop) → c .before .before .before .before .before .before .loop .i < length (c .before .before .before .before .before .before .loop .verdicts)
-place c = omega (arith, c .before .before .before .before .before .before .loop .inv .as-long, c .before .before .before .before .before .before .before .before .before .before .pre .0 .2)
+place c = omega (arith, c .before .before .before .before .before .before .loop .inv .as-long, c .before .before .before .before .before .before .before .before .before .before .pre .0 .1)
 
 add-end : tie.Need-add-end Inv-loop μ-loop
 add-end c = omega (arith, room c)
@@ -71,7 +71,7 @@ same-length-2 : tie.Need-same-length-2 Inv-loop μ-loop
 same-length-2 c = c .before .before .loop .inv .as-long
 
 returns-2 : tie.Need-returns-2 Inv-loop μ-loop
-returns-2 c = (c .closed .ensures ∙ answer-is (c .before .before .loop .inv) (omega arith), list-is (c .before .before .loop .inv) (omega arith) (c .before .before .before .before .before .before .pre .0 .2))
+returns-2 c = (c .closed .ensures ∙ answer-is (c .before .before .loop .inv) (omega arith), list-is (c .before .before .loop .inv) (omega arith) (c .before .before .before .before .before .before .pre .0 .1))
 
 pub judged-spec : {M : Type 1} → statement M
 judged-spec = tie.close (tie.spec Inv-loop μ-loop (λ c. omega arith) (λ c. omega arith) (λ c κs. search needs) loop-holds (λ c κs. search needs) (λ c. search needs) same-length returns (λ c. search needs) (λ c κs. search needs) add-end (λ c. search needs) mul-judge-into sub-judge-into part-judge-into-start (λ c. omega arith) (λ c. omega arith) (λ c. omega arith) part-judge-into-end-2 judge-into-requires with-requires add-i (λ c. omega arith) loop-again (λ c κs. search needs) same-length-2 returns-2)
