@@ -7,11 +7,13 @@ use conic::Problem;
 use conic::Vector;
 ghost use mathlib.Core.Path.{_≡_};
 ghost use Prim.Native.Nat.{_≤_};
-ghost use Rattle.card.specs.Fields.{kindOf, sizeOf, numberAt, vectorAt, problemOf};
+ghost use Rattle.card.specs.Fields.{kindOf, kindNumber, sizeOf, packedSize, numberAt, vectorAt, problemOf};
 ghost use Rattle.card.specs.Said.{named};
 
-// Where the fields of a body begin, behind the problem's 68 bytes: its spare; of a solved card x,
+// A problem's bytes, and where the fields of a body begin behind them: the problem's spare; of a solved card x,
 // position and velocity; of a refused one the number and a spare.
+pub const PROBLEM: usize = 68;
+
 pub const SPARE: usize = 68;
 
 pub const X: usize = 72;
@@ -36,6 +38,26 @@ pub enum Named {
 }
 
 impl Kind {
+    // Its number in an entry.
+    pub fn number(self) -> u32
+        ensures { λ r. ⌜ r ≡ kindNumber self ⌝ }
+    {
+        match self {
+            Kind::Solved => 1,
+            Kind::Refused => 2,
+        }
+    }
+
+    // The bytes of a card's fields without a spare.
+    pub fn packed(self) -> usize
+        ensures { λ r. ⌜ r ≡ packedSize self ⌝ }
+    {
+        match self {
+            Kind::Solved => 124,
+            Kind::Refused => 72,
+        }
+    }
+
     // The bytes of a body.
     pub fn size(self) -> usize
         ensures { λ r. ⌜ r ≡ sizeOf self ⌝ }

@@ -14,11 +14,12 @@ pub const HEADER: usize = 8;
 
 pub const ENTRY: usize = 12;
 
-const VERSION: u32 = 1;
+pub const VERSION: u32 = 1;
 
-const MOST_CARDS: u32 = 256;
+pub const MOST_CARDS: u32 = 256;
 
-// Why a deck is refused. The last reason is of the verdict list, which `deck` is lent.
+// Why a deck is refused, or is not written. ListTooShort is of the verdict list, which `deck` is lent;
+// the last three are of the crates that write decks.
 pub enum Reason {
     TooShort,
     OtherVersion,
@@ -30,6 +31,9 @@ pub enum Reason {
     BodyPastEnd,
     BytesLeftOver,
     ListTooShort,
+    TooManyGiven,
+    NoRoom,
+    BytesDoNotFit,
 }
 
 impl Reason {
@@ -48,6 +52,9 @@ impl Reason {
             Reason::BodyPastEnd => 37,
             Reason::BytesLeftOver => 38,
             Reason::ListTooShort => 39,
+            Reason::TooManyGiven => 40,
+            Reason::NoRoom => 41,
+            Reason::BytesDoNotFit => 46,
         }
     }
 }

@@ -1,7 +1,8 @@
 -- The line of one record: RULES, Lines. Definitions only.
 use Prim.Native.Nat.{ℕ}
 use mathlib.Core.List.{List, [], _∷_}
-use Rattle.text.specs.Text.{text, joined, count, number}
+use Rattle.pieces.specs.Pieces.{joined}
+use Rattle.text.specs.Text.{text, count, number}
 use Rattle.root.specs.Said as root
 use Rattle.root.specs.Root.{rootOf}
 use Rattle.conic.specs.declared.Vector.{Vector}

@@ -7,7 +7,7 @@ use conic::Problem;
 use conic::Vector;
 use root::Answer;
 ghost use mathlib.Core.Path.{_≡_};
-ghost use Rattle.text.specs.Text.{putIn, endIn, Put};
+ghost use Rattle.pieces.specs.Pieces.{putIn, endIn, Put};
 ghost use Rattle.root.specs.Said as root;
 ghost use Rattle.conic.specs.Said as conic;
 ghost use Rattle.line.specs.Line as line;
@@ -55,14 +55,14 @@ fn root_line(answer: Answer, out: &mut [u8], at: usize) -> usize
 {
     match answer {
         Answer::Root(x) => {
-            let mut end = text::put(out, at, b"root");
+            let mut end = pieces::put(out, at, b"root");
             end = text::number(out, end, x);
-            text::put(out, end, b"\n")
+            pieces::put(out, end, b"\n")
         }
         Answer::Refused(why) => {
-            let mut end = text::put(out, at, b"refused");
+            let mut end = pieces::put(out, at, b"refused");
             end = text::count(out, end, why.number());
-            text::put(out, end, b"\n")
+            pieces::put(out, end, b"\n")
         }
     }
 }
@@ -73,22 +73,22 @@ fn outcome_line(outcome: Outcome, out: &mut [u8], at: usize) -> usize
 {
     match outcome {
         Outcome::Solved { x, count, state } => {
-            let mut end = text::put(out, at, b"solved");
+            let mut end = pieces::put(out, at, b"solved");
             end = text::count(out, end, count);
             end = text::number(out, end, x);
             end = vector(state.r, out, end);
             end = vector(state.v, out, end);
-            text::put(out, end, b"\n")
+            pieces::put(out, end, b"\n")
         }
         Outcome::Refused(why, count) => {
             let end = refusal(why.number(), count, out, at);
-            text::put(out, end, b"\n")
+            pieces::put(out, end, b"\n")
         }
         Outcome::RefusedWithBracket(why, count, lo, hi) => {
             let mut end = refusal(why.number(), count, out, at);
             end = text::number(out, end, lo);
             end = text::number(out, end, hi);
-            text::put(out, end, b"\n")
+            pieces::put(out, end, b"\n")
         }
     }
 }
@@ -96,7 +96,7 @@ fn outcome_line(outcome: Outcome, out: &mut [u8], at: usize) -> usize
 fn refusal(number: u32, count: u32, out: &mut [u8], at: usize) -> usize
     ensures { λ r. ⌜ Put (now (out .entry)) at (line.refusal number count) (now (out .exit)) r ⌝ }
 {
-    let mut end = text::put(out, at, b"refused");
+    let mut end = pieces::put(out, at, b"refused");
     end = text::count(out, end, number);
     text::count(out, end, count)
 }

@@ -10,8 +10,8 @@ use borrow.Author.Tests.{leb-true, leb-false}
 use lib.Dec.{leb}
 use lib.ListN.{length, take, drop, length-append, length-drop, drop-of-length-le}
 use lib.Seq.{take-all, take-append-le, drop-append-le}
-use Rattle.text.specs.Text.{handedIn}
-use Rattle.text.proofs.Puts.{InFront, found}
+use Rattle.pieces.specs.Pieces.{handedIn}
+use Rattle.pieces.proofs.Puts.{InFront, found}
 use Rattle.line.specs.declared.Question.{Question}
 use Rattle.line.specs.Line.{widthOf, lineOf, mostLine}
 use Rattle.line.proofs.Widths.{width-least, width-most, line-most}

@@ -5,7 +5,7 @@ use line::Question;
 ghost use mathlib.Core.Path.{_≡_};
 ghost use Prim.Native.Nat.{_≤_, min};
 ghost use lib.ListN.{length};
-ghost use Rattle.text.specs.Text.{Put, handedIn};
+ghost use Rattle.pieces.specs.Pieces.{Put, handedIn};
 ghost use Rattle.lines.specs.Lines.{linesOf, blockOf, blockBytes, mostText};
 
 // The records that are answered at a time, and the room that their lines take at most: 137 bytes
@@ -49,7 +49,7 @@ fn in_little_room(asked: Question, s: &[u8], out: &mut [u8]) -> usize
 {
     let mut page = blank();
     let end = write(asked, s, &mut page);
-    text::hand(&page[..end], out)
+    pieces::hand(&page[..end], out)
 }
 
 // A page with room for the lines of any block.
@@ -72,7 +72,7 @@ fn write(asked: Question, s: &[u8], page: &mut [u8]) -> usize
         at = next;
     }
     if at < s.len() {
-        return text::put(page, end, b"short\n");
+        return pieces::put(page, end, b"short\n");
     }
     end
 }

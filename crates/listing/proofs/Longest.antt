@@ -9,8 +9,9 @@ use borrow.Author.Tests.{ltb-true, ltb-false}
 use lib.Dec.{ltb}
 use lib.Ieee.{Float}
 use lib.ListN.{length, length-append, length-map}
-use Rattle.text.specs.Text.{decimal, handedIn}
-use Rattle.text.proofs.Puts.{InFront, found}
+use Rattle.pieces.specs.Pieces.{handedIn}
+use Rattle.text.specs.Text.{decimal}
+use Rattle.pieces.proofs.Puts.{InFront, found}
 use Rattle.text.proofs.Length.{length-under, length-self, length-number, length-count}
 use Rattle.rows.specs.Rows.{Checked, pass, refuse}
 use Rattle.card.specs.declared.Kind.{Kind}

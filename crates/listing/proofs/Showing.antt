@@ -9,9 +9,9 @@ use native.Mathlib.Numerals.{add-one}
 use native.Mathlib.Omega.{arith}
 use lib.ListN.{length, drop, getD, length-drop, drop-of-length-le}
 use lib.Seq.{drop-cons}
-use Rattle.text.specs.Text.{Put}
-use Rattle.text.proofs.Puts as text
-use Rattle.text.proofs.Puts.{puts, none, renamed}
+use Rattle.pieces.specs.Pieces.{Put}
+use Rattle.pieces.proofs.Puts as text
+use Rattle.pieces.proofs.Puts.{puts, none, renamed}
 use Rattle.rows.specs.Rows.{pass, refuse}
 use Rattle.rows.proofs.Laws.{pass-once}
 use Rattle.card.specs.declared.Kind.{Kind}

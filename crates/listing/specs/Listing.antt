@@ -1,7 +1,8 @@
 -- A deck's listing: RULES, The check program's listing, "The listing" below. Definitions only.
 use Prim.Native.Nat.{ℕ, _+_}
 use mathlib.Core.List.{List, [], _∷_, _++_}
-use Rattle.text.specs.Text.{text, joined, count, number}
+use Rattle.pieces.specs.Pieces.{joined}
+use Rattle.text.specs.Text.{text, count, number}
 use Rattle.rows.specs.Rows.{Checked, pass, refuse}
 use Rattle.card.specs.declared.Kind.{Kind}
 use Rattle.card.specs.declared.Kind.the-variants as kind

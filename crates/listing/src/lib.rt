@@ -12,7 +12,7 @@ ghost use mathlib.Core.Path.{_≡_};
 ghost use mathlib.Core.List.{List};
 ghost use lib.ListN.{length};
 ghost use Rattle.rows.specs.Rows.{pass};
-ghost use Rattle.text.specs.Text.{Put, handedIn};
+ghost use Rattle.pieces.specs.Pieces.{Put, handedIn};
 ghost use Rattle.card.specs.Fields.{Card};
 ghost use Rattle.contents.specs.Contents.{cardsOf};
 ghost use Rattle.deck.specs.Said.{told};
@@ -31,7 +31,7 @@ pub fn listing(deck: &[u8], out: &mut [u8]) -> usize
 {
     let mut page = blank();
     let end = write(deck, &mut page);
-    text::hand(&page[..end], out)
+    pieces::hand(&page[..end], out)
 }
 
 // A page with room for any listing.
@@ -61,9 +61,9 @@ fn write(deck: &[u8], page: &mut [u8]) -> usize
 fn refused(number: u32, page: &mut [u8]) -> usize
     ensures { λ r. ⌜ Put (now (page .entry)) 0 (listing.refusedLine number) (now (page .exit)) r ⌝ }
 {
-    let mut end = text::put(page, 0, b"deck");
+    let mut end = pieces::put(page, 0, b"deck");
     end = text::count(page, end, number);
-    text::put(page, end, b"\n")
+    pieces::put(page, end, b"\n")
 }
 
 // A line for each card of an accepted deck, which has no card without a kind.
@@ -88,45 +88,45 @@ fn cards(deck: &[u8], verdicts: &[u32], count: u32, page: &mut [u8]) -> usize
 fn card_line(place: u32, kind: Kind, verdict: u32, page: &mut [u8], at: usize) -> usize
     ensures { λ r. ⌜ Put (now (page .entry)) at (listing.placedLine place kind verdict) (now (page .exit)) r ⌝ }
 {
-    let mut end = text::put(page, at, b"card");
+    let mut end = pieces::put(page, at, b"card");
     end = text::count(page, end, place);
     end = kind_word(kind, page, end);
     end = text::count(page, end, verdict);
-    text::put(page, end, b"\n")
+    pieces::put(page, end, b"\n")
 }
 
 fn kind_word(kind: Kind, page: &mut [u8], at: usize) -> usize
     ensures { λ r. ⌜ Put (now (page .entry)) at (listing.kindWord kind) (now (page .exit)) r ⌝ }
 {
     match kind {
-        Kind::Solved => text::put(page, at, b" solved"),
-        Kind::Refused => text::put(page, at, b" refused"),
+        Kind::Solved => pieces::put(page, at, b" solved"),
+        Kind::Refused => pieces::put(page, at, b" refused"),
     }
 }
 
 fn totals_line(totals: Totals, page: &mut [u8], at: usize) -> usize
     ensures { λ r. ⌜ Put (now (page .entry)) at (listing.totalsLine totals) (now (page .exit)) r ⌝ }
 {
-    let mut end = text::put(page, at, b"solved");
+    let mut end = pieces::put(page, at, b"solved");
     end = text::count(page, end, totals.solved);
-    end = text::put(page, end, b" refused");
+    end = pieces::put(page, end, b" refused");
     end = text::count(page, end, totals.refused);
-    end = text::put(page, end, b" rejected");
+    end = pieces::put(page, end, b" rejected");
     end = text::count(page, end, totals.rejected);
-    text::put(page, end, b"\n")
+    pieces::put(page, end, b"\n")
 }
 
 fn residual_lines(residuals: Residuals, page: &mut [u8], at: usize) -> usize
     ensures { λ r. ⌜ Put (now (page .entry)) at (listing.residualLines (told residuals)) (now (page .exit)) r ⌝ }
 {
     match residuals {
-        Residuals::Absent => text::put(page, at, b"mean none\nworst none\n"),
+        Residuals::Absent => pieces::put(page, at, b"mean none\nworst none\n"),
         Residuals::Known { mean, worst } => {
-            let mut end = text::put(page, at, b"mean");
+            let mut end = pieces::put(page, at, b"mean");
             end = text::number(page, end, mean);
-            end = text::put(page, end, b"\nworst");
+            end = pieces::put(page, end, b"\nworst");
             end = text::number(page, end, worst);
-            text::put(page, end, b"\n")
+            pieces::put(page, end, b"\n")
         }
     }
 }

@@ -20,17 +20,17 @@ fn check_in(deck: &[u8], room: usize)
     let mut list = [97u32; 5];
     let number = refusal(deck::check(deck, &mut list[..room]));
     let mut page = [0u8; 128];
-    let mut end = text::put(&mut page, 0, b"room");
+    let mut end = pieces::put(&mut page, 0, b"room");
     end = text::count(&mut page, end, room as u32);
-    end = text::put(&mut page, end, b" deck");
+    end = pieces::put(&mut page, end, b" deck");
     end = text::count(&mut page, end, number);
-    end = text::put(&mut page, end, b" list");
+    end = pieces::put(&mut page, end, b" list");
     end = text::count(&mut page, end, list[0]);
     end = text::count(&mut page, end, list[1]);
     end = text::count(&mut page, end, list[2]);
     end = text::count(&mut page, end, list[3]);
     end = text::count(&mut page, end, list[4]);
-    end = text::put(&mut page, end, b"\n");
+    end = pieces::put(&mut page, end, b"\n");
     stdio::write(&page[..end]);
 }
 

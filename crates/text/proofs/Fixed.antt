@@ -2,23 +2,13 @@
 use mathlib.Core.Path.{ap}
 use Rattle.coincidence.specs.Coincidence.{Fixes}
 use Rattle.coincidence.proofs.Laws.{one-result}
-use Rattle.text.proofs.put.Reads as put
-use Rattle.text.proofs.put.Kinds as put-kinds
 use Rattle.text.proofs.count.Reads as count
 use Rattle.text.proofs.count.Kinds as count-kinds
 use Rattle.text.proofs.number.Reads as number
 use Rattle.text.proofs.number.Kinds as number-kinds
-use Rattle.text.proofs.hand.Reads as hand
-use Rattle.text.proofs.hand.Kinds as hand-kinds
-
-pub put-fixes : Fixes 2 put-kinds.ps put-kinds.r put.Learnt
-put-fixes κs a x y v w p q = (one-result (p .0) (q .0), ap (λ l. (l, (tt, (tt, tt)))) (one-result (p .1) (q .1)))
 
 pub count-fixes : Fixes 1 count-kinds.ps count-kinds.r count.Learnt
 count-fixes κs a x y v w p q = (one-result (p .0) (q .0), ap (λ l. (l, (tt, (tt, tt)))) (one-result (p .1) (q .1)))
 
 pub number-fixes : Fixes 1 number-kinds.ps number-kinds.r number.Learnt
 number-fixes κs a x y v w p q = (one-result (p .0) (q .0), ap (λ l. (l, (tt, (tt, tt)))) (one-result (p .1) (q .1)))
-
-pub hand-fixes : Fixes 2 hand-kinds.ps hand-kinds.r hand.Learnt
-hand-fixes κs a x y v w p q = (one-result (p .0) (q .0), ap (λ l. (tt, (l, tt))) (one-result (p .1) (q .1)))

@@ -1,3 +1,3 @@
-pub mod Puts
 pub mod Length
+pub mod Digits
 pub mod Fixed

@@ -18,7 +18,8 @@ use Rattle.conic.specs.Unfolding.{stateAt}
 use Rattle.entry.specs.Entry.{sixtyFour, eight, entryOf}
 use Rattle.kepler.specs.Kepler.{keplerOf}
 use Rattle.words.specs.Words.{bytesOf}
-use Rattle.text.specs.Text.{text, joined}
+use Rattle.pieces.specs.Pieces.{joined}
+use Rattle.text.specs.Text.{text}
 use Rattle.card.specs.Made.{problemBytes, solvedBody, refusedBody}
 use Rattle.listing.specs.Listing.{listingOf}
 

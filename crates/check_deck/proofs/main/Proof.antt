@@ -2,7 +2,7 @@
 use mathlib.Core.Path.{refl}
 use borrow.Author.Needs.{needs}
 use lib.ListN.{take, replicate}
-use Rattle.text.proofs.Puts.{InFront}
+use Rattle.pieces.proofs.Puts.{InFront}
 use Rattle.listing.specs.Listing.{listingOf}
 use Rattle.listing.proofs.Longest.{in-page}
 use Rattle.check_deck.proofs.main.Statement.{statement}

@@ -7,8 +7,8 @@ use Rattle.kepler.specs.Kepler.{keplerOf}
 use Rattle.card.specs.Fields.{numberAt, problemOf}
 use Rattle.line.specs.declared.Question.the-variants as question
 use Rattle.line.specs.Line.{lineOf, rootLine, outcomeLine, turned}
-use Rattle.text.specs.Text.{Put}
-use Rattle.text.proofs.Puts.{renamed, both}
+use Rattle.pieces.specs.Pieces.{Put}
+use Rattle.pieces.proofs.Puts.{renamed, both}
 use borrow.Author.Needs.{needs}
 use Rattle.line.proofs.line.Statement.{statement}
 use Rattle.line.proofs.line.Tie as tie

@@ -1,5 +1,5 @@
 -- `line::outcome_line` meets its contract.
-use Rattle.text.proofs.Puts.{puts, last, wrote}
+use Rattle.pieces.proofs.Puts.{puts, last, wrote}
 use borrow.Author.Needs.{needs}
 use Rattle.line.proofs.outcome_line.Statement.{statement}
 use Rattle.line.proofs.outcome_line.Tie as tie

@@ -1,5 +1,5 @@
 -- `line::refusal` meets its contract.
-use Rattle.text.proofs.Puts.{puts, last, wrote}
+use Rattle.pieces.proofs.Puts.{puts, last, wrote}
 use borrow.Author.Needs.{needs}
 use Rattle.line.proofs.refusal.Statement.{statement}
 use Rattle.line.proofs.refusal.Tie as tie

@@ -1,5 +1,5 @@
 -- `line::root_line` meets its contract, in either case.
-use Rattle.text.proofs.Puts.{puts, last, wrote}
+use Rattle.pieces.proofs.Puts.{puts, last, wrote}
 use borrow.Author.Needs.{needs}
 use Rattle.line.proofs.root_line.Statement.{statement}
 use Rattle.line.proofs.root_line.Tie as tie

@@ -1,5 +1,5 @@
 -- `line::vector` meets its contract: three numbers one behind the other.
-use Rattle.text.proofs.Puts.{puts, last, wrote}
+use Rattle.pieces.proofs.Puts.{puts, last, wrote}
 use borrow.Author.Needs.{needs}
 use Rattle.line.proofs.vector.Statement.{statement}
 use Rattle.line.proofs.vector.Tie as tie

@@ -2,7 +2,7 @@
 use mathlib.Core.Path.{sym}
 use native.Mathlib.Nat.{le-trans, le-of-eq}
 use lib.Seq.{length-take-le}
-use Rattle.text.proofs.Puts.{inside, handed-on}
+use Rattle.pieces.proofs.Puts.{inside, handed-on}
 use Rattle.lines.proofs.Records.{text-most}
 use borrow.Author.Needs.{needs}
 use Rattle.lines.proofs.in_little_room.Statement.{statement}

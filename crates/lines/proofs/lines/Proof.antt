@@ -6,8 +6,8 @@ use native.Mathlib.Nat.{le-trans}
 use native.Mathlib.Omega.{arith}
 use lib.ListN.{length, take, length-take}
 use lib.Seq.{length-take-le}
-use Rattle.text.specs.Text.{handedIn}
-use Rattle.text.proofs.Puts.{renamed, handed}
+use Rattle.pieces.specs.Pieces.{handedIn}
+use Rattle.pieces.proofs.Puts.{renamed, handed}
 use Rattle.line.specs.declared.Question.{Question}
 use Rattle.lines.specs.Lines.{linesOf, blockBytes, blockOf, mostText}
 use Rattle.lines.proofs.Records.{first-block, text-most}

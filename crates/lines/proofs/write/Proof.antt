@@ -6,8 +6,9 @@ use native.Mathlib.Omega.{arith}
 use borrow.Author.Needs.{needs}
 use lib.ListN.{length, take, drop, length-drop, drop-of-length-le}
 use lib.Seq.{drop-drop}
-use Rattle.text.specs.Text.{text, Put}
-use Rattle.text.proofs.Puts.{puts, renamed, none, as-long, wrote}
+use Rattle.pieces.specs.Pieces.{Put}
+use Rattle.text.specs.Text.{text}
+use Rattle.pieces.proofs.Puts.{puts, renamed, none, as-long, wrote}
 use Rattle.line.specs.declared.Question.{Question}
 use Rattle.line.specs.Line.{widthOf, lineOf}
 use Rattle.lines.specs.Lines.{leftOver, linesOf}

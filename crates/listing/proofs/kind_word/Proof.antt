@@ -1,5 +1,5 @@
 -- `listing::kind_word` meets its contract: each arm writes the word of its kind.
-use Rattle.text.proofs.Puts.{wrote}
+use Rattle.pieces.proofs.Puts.{wrote}
 use borrow.Author.Needs.{needs}
 use Rattle.listing.proofs.kind_word.Statement.{statement}
 use Rattle.listing.proofs.kind_word.Tie as tie

@@ -1,5 +1,5 @@
 -- `listing::residual_lines` meets its contract: that there is neither, or the five pieces of the two lines, one behind the other.
-use Rattle.text.proofs.Puts.{puts, last, wrote}
+use Rattle.pieces.proofs.Puts.{puts, last, wrote}
 use borrow.Author.Needs.{needs}
 use Rattle.listing.proofs.residual_lines.Statement.{statement}
 use Rattle.listing.proofs.residual_lines.Tie as tie

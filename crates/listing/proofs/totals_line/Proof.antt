@@ -1,5 +1,5 @@
 -- `listing::totals_line` meets its contract: the seven pieces of the line, one behind the other.
-use Rattle.text.proofs.Puts.{puts, last, wrote}
+use Rattle.pieces.proofs.Puts.{puts, last, wrote}
 use borrow.Author.Needs.{needs}
 use Rattle.listing.proofs.totals_line.Statement.{statement}
 use Rattle.listing.proofs.totals_line.Tie as tie

@@ -6,8 +6,8 @@ use Prim.Native.Nat.{ℕ, _+_}
 use native.Mathlib.Omega.{arith}
 use borrow.Author.Needs.{needs}
 use lib.ListN.{replicate}
-use Rattle.text.specs.Text.{joined}
-use Rattle.text.proofs.Puts.{puts, last, renamed}
+use Rattle.pieces.specs.Pieces.{joined}
+use Rattle.pieces.proofs.Puts.{puts, last, renamed}
 use Rattle.rows.specs.Rows.{refuse}
 use Rattle.contents.specs.Contents.{cardsOf}
 use Rattle.contents.specs.Said.{reasonNumber}

@@ -4,7 +4,7 @@ use Prim.Native.Nat.{ℕ, _≤_}
 use native.Mathlib.Omega.{arith}
 use borrow.Author.Needs.{needs}
 use lib.ListN.{length, take}
-use Rattle.text.proofs.Puts.{InFront}
+use Rattle.pieces.proofs.Puts.{InFront}
 use Rattle.lines.specs.Lines.{linesOf, blockBytes}
 use Rattle.lines.proofs.Records.{lines-found}
 use Rattle.records.proofs.block.Statement.{statement}

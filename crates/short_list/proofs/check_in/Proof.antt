@@ -3,7 +3,7 @@ use mathlib.Core.Path.{sym}
 use native.Mathlib.Omega.{arith}
 use lib.ListN.{replicate}
 use lib.Seq.{length-take-le}
-use Rattle.text.proofs.Puts.{inside, wrote}
+use Rattle.pieces.proofs.Puts.{inside, wrote}
 use borrow.Author.Needs.{needs}
 use Rattle.short_list.proofs.check_in.Statement.{statement}
 use Rattle.short_list.proofs.check_in.Tie as tie

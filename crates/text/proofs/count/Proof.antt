@@ -11,7 +11,8 @@ use lib.Dec.{eqb, ltb}
 use lib.ListN.{length, take, drop, set, getD, replicate, length-set, length-drop, getD-replicate, List·getD-append}
 use lib.Seq.{append-snoc, take-all, drop-cons, getD-set-other}
 use Rattle.text.specs.Text.{digit, decimal, count}
-use Rattle.text.proofs.Puts.{digit-before, renamed, wrote, both}
+use Rattle.pieces.proofs.Puts.{renamed, wrote, both}
+use Rattle.text.proofs.Digits.{digit-before}
 use Rattle.text.proofs.count.Statement.{statement}
 use Rattle.text.proofs.count.Tie as tie
 

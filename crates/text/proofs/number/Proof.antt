@@ -2,7 +2,7 @@
 use mathlib.Core.Path.{_∙_, ap}
 use borrow.Author.Needs.{needs}
 use Rattle.text.specs.Text.{worded}
-use Rattle.text.proofs.Puts.{renamed, wrote, both}
+use Rattle.pieces.proofs.Puts.{renamed, wrote, both}
 use Rattle.text.proofs.number.Statement.{statement}
 use Rattle.text.proofs.number.Tie as tie
 

@@ -6,7 +6,7 @@ use native.Mathlib.Omega.{arith}
 use lib.ListN.{length, take, drop, set, length-set, take-append-drop}
 use lib.Seq.{take-set-le, append-snoc}
 use Rattle.text.specs.Text.{digit, hex, worded}
-use Rattle.text.proofs.Puts.{digit-before}
+use Rattle.text.proofs.Digits.{digit-before}
 use Rattle.text.proofs.worded.Statement.{statement}
 use Rattle.text.proofs.worded.Tie as tie
 

@@ -1,13 +1,13 @@
--- `text::copy` meets its contract. The invariant: the first i bytes stand in their places.
+-- `pieces::copy` meets its contract. The invariant: the first i bytes stand in their places.
 use mathlib.Core.Path.{_≡_, refl, ap, _∙_}
 use mathlib.Core.List.{List}
 use Prim.Native.Nat.{ℕ, _+_, _-_, _≤_}
 use native.Mathlib.Omega.{arith}
 use lib.ListN.{length, take, set, getD}
 use lib.Seq.{sets, length-sets}
-use Rattle.text.proofs.Puts.{one-more}
-use Rattle.text.proofs.copy.Statement.{statement}
-use Rattle.text.proofs.copy.Tie as tie
+use Rattle.pieces.proofs.Puts.{one-more}
+use Rattle.pieces.proofs.copy.Statement.{statement}
+use Rattle.pieces.proofs.copy.Tie as tie
 
 as-long : (out₀ : List ℕ) (at : ℕ) (piece : List ℕ) {out : List ℕ} → out ≡ sets out₀ at piece → length out ≡ length out₀
 as-long out₀ at piece e = ap length e ∙ length-sets out₀ at piece

@@ -8,9 +8,9 @@ use native.Mathlib.Numerals.{add-one}
 use native.Mathlib.Omega.{arith}
 use borrow.Author.Tests.{leb-true, leb-false, le-leb}
 use lib.Dec.{leb}
-use lib.ListN.{length, take, drop, set, getD, length-append, length-set, take-append-drop}
-use lib.Seq.{sets, length-sets, sets-eq, set-out, take-suc, take-length, length-take-le, take-append-seam, drop-cons, drop-set-lt, getD-set-same}
-use Rattle.text.specs.Text.{joined, putIn, endIn, Put, handedIn}
+use lib.ListN.{length, take, drop, set, getD, length-append, take-append-drop}
+use lib.Seq.{sets, length-sets, sets-eq, set-out, take-suc, take-length, length-take-le, take-append-seam}
+use Rattle.pieces.specs.Pieces.{joined, putIn, endIn, Put, handedIn}
 
 sets-append : (l : List ℕ) (at : ℕ) (s t : List ℕ) → sets l at (s ++ t) ≡ sets (sets l at s) (at + length s) t
 sets-append l at [] t = ap (λ (k : ℕ). sets l k t) (sym (add-zero at))
@@ -152,14 +152,6 @@ as-far l at s h = go (leb (length s) (length l - at)) refl
               ∙ sym (sets-append l at (take n s) (drop n s))
               ∙ ap (sets l at) (take-append-drop n s));
         }
-
--- a digit set in front of those that stand
-pub digit-before : (digits : List ℕ) (left d : ℕ) → 0 < left → left ≤ length digits → drop (left - 1) (set digits (left - 1) d) ≡ d ∷ drop left digits
-digit-before digits left d h k =
-    let inside : left - 1 < length digits = omega arith in
-    let next : suc (left - 1) ≡ left = omega arith in
-    drop-cons (set digits (left - 1) d) (left - 1) 0 (rw (length-set digits (left - 1) d) inside)
-    ∙ rw (getD-set-same digits (left - 1) d 0 inside, next, drop-set-lt left digits (left - 1) d (omega arith))
 
 -- a writer's two equations are one piece written, and a piece written is two equations
 pub wrote : {before after piece : List ℕ} {at end : ℕ} → (end ≡ endIn before at piece) × (after ≡ putIn before at piece) → Put before at piece after end

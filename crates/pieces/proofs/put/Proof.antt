@@ -1,4 +1,4 @@
--- `text::put` meets its contract: a place past the end takes nothing, and elsewhere as much is copied as there is room for.
+-- `pieces::put` meets its contract: a place past the end takes nothing, and elsewhere as much is copied as there is room for.
 use mathlib.Core.Path.{_≡_, sym, ap, _∙_}
 use mathlib.Core.List.{List}
 use Prim.Native.Nat.{ℕ, _+_, _-_, _≤_, _<_, min}
@@ -6,10 +6,10 @@ use native.Mathlib.Omega.{arith}
 use borrow.Author.Needs.{needs}
 use lib.ListN.{length, take}
 use lib.Seq.{sets}
-use Rattle.text.specs.Text.{putIn, endIn}
-use Rattle.text.proofs.Puts.{sets-beyond, as-far}
-use Rattle.text.proofs.put.Statement.{statement}
-use Rattle.text.proofs.put.Tie as tie
+use Rattle.pieces.specs.Pieces.{putIn, endIn}
+use Rattle.pieces.proofs.Puts.{sets-beyond, as-far}
+use Rattle.pieces.proofs.put.Statement.{statement}
+use Rattle.pieces.proofs.put.Tie as tie
 
 beyond : (l : List ℕ) (at : ℕ) (s : List ℕ) → length l < at → (length l ≡ endIn l at s) × (l ≡ putIn l at s)
 unfolding endIn putIn

@@ -1,4 +1,4 @@
--- `text::hand` meets its contract: where there is room all is copied, and else nothing.
+-- `pieces::hand` meets its contract: where there is room all is copied, and else nothing.
 use mathlib.Core.Path.{_≡_, refl, sym, ap, _∙_}
 use mathlib.Core.Bool.{Bool, cond}
 use mathlib.Core.List.{List, _++_}
@@ -8,10 +8,10 @@ use borrow.Author.Needs.{needs}
 use borrow.Author.Tests.{lt-leb}
 use lib.ListN.{length, drop}
 use lib.Seq.{sets, take-length}
-use Rattle.text.specs.Text.{handedIn}
-use Rattle.text.proofs.Puts.{written-is-handed}
-use Rattle.text.proofs.hand.Statement.{statement}
-use Rattle.text.proofs.hand.Tie as tie
+use Rattle.pieces.specs.Pieces.{handedIn}
+use Rattle.pieces.proofs.Puts.{written-is-handed}
+use Rattle.pieces.proofs.hand.Statement.{statement}
+use Rattle.pieces.proofs.hand.Tie as tie
 
 -- there is no room for the whole text
 no-room : (whole buffer : List ℕ) → length buffer < length whole → buffer ≡ handedIn whole buffer

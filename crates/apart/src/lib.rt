@@ -1,0 +1,80 @@
+// A deck taken apart: the kinds of its cards and their fields without spares. docs/RULES.md, Writing a
+// deck.
+//
+// Every function here is proved, the public ones are total, and the crate assumes nothing.
+use card::Kind;
+use card::Named;
+use contents::Contents;
+use contents::Reason;
+
+// How many cards there are and the bytes that their fields take, or why the deck is refused.
+pub enum Apart {
+    Cards(u32, usize),
+    Refused(Reason),
+}
+
+// Takes a deck apart: the kinds and the fields of its cards, each at the front of its list.
+pub fn take(deck: &[u8], kinds: &mut [u32], fields: &mut [u8]) -> Apart {
+    match contents::tested(deck) {
+        Contents::Refused(why) => Apart::Refused(why),
+        Contents::Cards(count) => with_room(deck, count, kinds, fields),
+    }
+}
+
+fn with_room(deck: &[u8], count: u32, kinds: &mut [u32], fields: &mut [u8]) -> Apart {
+    let size = measured(deck, count);
+    if (kinds.len() < count as usize) | (fields.len() < size) {
+        return Apart::Refused(Reason::NoRoom);
+    }
+    list_kinds(deck, count, kinds);
+    put_all(deck, count, fields);
+    Apart::Cards(count, size)
+}
+
+// The bytes of all fields.
+fn measured(deck: &[u8], count: u32) -> usize {
+    let mut sum = 0;
+    let mut i = 0;
+    while i < count {
+        let Named::Kind(kind) = contents::kind_at(deck, i) else {
+            return sum;
+        };
+        sum += kind.packed();
+        i += 1;
+    }
+    sum
+}
+
+fn list_kinds(deck: &[u8], count: u32, kinds: &mut [u32]) {
+    let mut i = 0;
+    while i < count {
+        let Named::Kind(kind) = contents::kind_at(deck, i) else {
+            return;
+        };
+        kinds[i as usize] = kind.number();
+        i += 1;
+    }
+}
+
+fn put_all(deck: &[u8], count: u32, fields: &mut [u8]) -> usize {
+    let mut at = contents::HEADER + contents::ENTRY * count as usize;
+    let mut end = 0;
+    let mut i = 0;
+    while i < count {
+        let Named::Kind(kind) = contents::kind_at(deck, i) else {
+            return end;
+        };
+        let next = at + kind.size();
+        end = put_fields(kind, &deck[at..next], fields, end);
+        at = next;
+        i += 1;
+    }
+    end
+}
+
+// The fields in a body, without its spares.
+fn put_fields(kind: Kind, body: &[u8], fields: &mut [u8], at: usize) -> usize {
+    let problem = pieces::put(fields, at, &body[..card::PROBLEM]);
+    let last = card::X + (kind.packed() - card::PROBLEM);
+    pieces::put(fields, problem, &body[card::X..last])
+}

@@ -1,0 +1,19 @@
+// A deck copied: its cards written anew, with spares that are 0. docs/RULES.md, Writing a deck.
+//
+// The function here is proved and total, and the crate assumes nothing.
+use apart::Apart;
+use writer::Written;
+
+// Copies a deck to the front of the buffer.
+pub fn copy(deck: &[u8], buffer: &mut [u8]) -> Written {
+    let mut kinds = [0u32; 256];
+    let mut fields = [0u8; 31744];
+    match apart::take(deck, &mut kinds, &mut fields) {
+        Apart::Refused(why) => Written::Refused(why),
+        Apart::Cards(count, size) => writer::write(
+            &kinds[..count as usize],
+            &fields[..size],
+            buffer,
+        ),
+    }
+}

@@ -1,0 +1,110 @@
+// Finished cards in, a deck out. docs/RULES.md, Writing a deck.
+//
+// Nothing is computed from a card's fields. Every function here is proved, the public ones are total,
+// and the crate assumes nothing.
+use card::Kind;
+use card::Named;
+use contents::Reason;
+
+// The length of the deck that was written, or why none was.
+pub enum Written {
+    Deck(usize),
+    Refused(Reason),
+}
+
+// Writes the cards with these kinds and these fields, one card's behind the other's and without
+// spares, as a deck at the front of the buffer.
+pub fn write(kinds: &[u32], fields: &[u8], buffer: &mut [u8]) -> Written {
+    if kinds.len() > contents::MOST_CARDS as usize {
+        return Written::Refused(Reason::TooManyGiven);
+    }
+    let made = measured(kinds, fields);
+    let Written::Deck(size) = made else {
+        return made;
+    };
+    if buffer.len() < size {
+        return Written::Refused(Reason::NoRoom);
+    }
+    fill(kinds, fields, buffer);
+    made
+}
+
+// How long the deck of these cards is, or why they make none.
+fn measured(kinds: &[u32], fields: &[u8]) -> Written {
+    let mut i = 0;
+    let mut at = 0;
+    let mut end = contents::HEADER + contents::ENTRY * kinds.len();
+    while i < kinds.len() {
+        let Named::Kind(kind) = card::kind_of(kinds[i]) else {
+            return Written::Refused(Reason::UnknownKind);
+        };
+        let size = kind.packed();
+        if fields.len() - at < size {
+            return Written::Refused(Reason::BytesDoNotFit);
+        }
+        at += size;
+        end += kind.size();
+        i += 1;
+    }
+    if at != fields.len() {
+        return Written::Refused(Reason::BytesDoNotFit);
+    }
+    Written::Deck(end)
+}
+
+// Version and count, the entries, the bodies.
+fn fill(kinds: &[u32], fields: &[u8], buffer: &mut [u8]) -> usize {
+    let version = words::put_half(buffer, 0, contents::VERSION);
+    let count = words::put_half(buffer, version, kinds.len() as u32);
+    let end = entries(kinds, buffer, count);
+    bodies(kinds, fields, buffer, end)
+}
+
+fn entries(kinds: &[u32], buffer: &mut [u8], start: usize) -> usize {
+    let mut offset = contents::HEADER + contents::ENTRY * kinds.len();
+    let mut end = start;
+    let mut i = 0;
+    while i < kinds.len() {
+        let Named::Kind(kind) = card::kind_of(kinds[i]) else {
+            return end;
+        };
+        let size = kind.size();
+        end = entry(kind, offset, buffer, end);
+        offset += size;
+        i += 1;
+    }
+    end
+}
+
+fn entry(kind: Kind, offset: usize, buffer: &mut [u8], start: usize) -> usize {
+    let number = words::put_half(buffer, start, kind.number());
+    let place = words::put_half(buffer, number, offset as u32);
+    words::put_half(buffer, place, kind.size() as u32)
+}
+
+fn bodies(kinds: &[u32], fields: &[u8], buffer: &mut [u8], start: usize) -> usize {
+    let mut at = 0;
+    let mut end = start;
+    let mut i = 0;
+    while i < kinds.len() {
+        let Named::Kind(kind) = card::kind_of(kinds[i]) else {
+            return end;
+        };
+        let next = at + kind.packed();
+        end = body(kind, &fields[at..next], buffer, end);
+        at = next;
+        i += 1;
+    }
+    end
+}
+
+// The body of a card: its fields, and its spares.
+fn body(kind: Kind, fields: &[u8], buffer: &mut [u8], start: usize) -> usize {
+    let problem = pieces::put(buffer, start, &fields[..card::PROBLEM]);
+    let spare = words::put_half(buffer, problem, 0);
+    let answer = pieces::put(buffer, spare, &fields[card::PROBLEM..]);
+    match kind {
+        Kind::Solved => answer,
+        Kind::Refused => words::put_half(buffer, answer, 0),
+    }
+}
