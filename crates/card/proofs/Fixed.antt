@@ -3,6 +3,10 @@ use mathlib.Core.Path.{refl}
 use Rattle.coincidence.specs.Coincidence.{Fixes}
 use Rattle.coincidence.proofs.Laws.{one-result, one-answer}
 use Rattle.card.proofs.Theorems.{named-once}
+use Rattle.card.proofs.Kind.number.Reads as kind-number
+use Rattle.card.proofs.Kind.number.Kinds as kind-number-kinds
+use Rattle.card.proofs.Kind.packed.Reads as kind-packed
+use Rattle.card.proofs.Kind.packed.Kinds as kind-packed-kinds
 use Rattle.card.proofs.Kind.size.Reads as kind-size
 use Rattle.card.proofs.Kind.size.Kinds as kind-size-kinds
 use Rattle.card.proofs.kind_of.Reads as kind-of
@@ -11,6 +15,12 @@ use Rattle.card.proofs.number.Reads as number
 use Rattle.card.proofs.number.Kinds as number-kinds
 use Rattle.card.proofs.problem.Reads as problem
 use Rattle.card.proofs.problem.Kinds as problem-kinds
+
+pub kind-number-fixes : Fixes 0 kind-number-kinds.ps kind-number-kinds.r kind-number.Learnt
+kind-number-fixes κs a x y v w p q = (one-result p q, refl)
+
+pub kind-packed-fixes : Fixes 0 kind-packed-kinds.ps kind-packed-kinds.r kind-packed.Learnt
+kind-packed-fixes κs a x y v w p q = (one-result p q, refl)
 
 pub kind-size-fixes : Fixes 0 kind-size-kinds.ps kind-size-kinds.r kind-size.Learnt
 kind-size-fixes κs a x y v w p q = (one-result p q, refl)

@@ -21,6 +21,24 @@ pub record Card : Type 0 where
 unfoldable pub kindOf : ℕ → Checked Kind
 kindOf n = cond (eqb n 1) (pass kind.Solved) (cond (eqb n 2) (pass kind.Refused) (refuse 34))
 
+-- and the number that stands for a kind
+unfoldable pub kindNumber : Kind → ℕ
+kindNumber kind.Solved = 1
+kindNumber kind.Refused = 2
+
+-- The deck 4: the bytes of a problem before its spare
+abbrev pub problemSize : ℕ
+problemSize = 68
+
+-- The deck 5 and 6: the bytes of an answer, without a spare
+unfoldable pub answerSize : Kind → ℕ
+answerSize kind.Solved = 56
+answerSize kind.Refused = 4
+
+-- Writing a deck 2: the bytes of a card's fields without a spare
+abbrev pub packedSize : Kind → ℕ
+packedSize kind = problemSize + answerSize kind
+
 -- The deck 5 and 6: the bytes of a body
 unfoldable pub sizeOf : Kind → ℕ
 sizeOf kind.Solved = 128

@@ -1,15 +1,17 @@
--- The card that a problem and Kepler's answer make: RULES, The deck. A problem is given as the 68 bytes that stand before the spare.
--- Definitions only.
-use Prim.Native.Nat.{ℕ}
+-- A card's body from its fields, and the card that a problem and Kepler's answer make: RULES, The deck and Writing a deck. A problem is given as
+-- the 68 bytes that stand before the spare. Definitions only.
+use Prim.Native.Nat.{ℕ, _+_}
 use mathlib.Core.List.{List, [], _∷_, _++_}
+use lib.ListN.{take, drop}
 use lib.Ieee.{Float}
 use Rattle.exact.specs.Numbers.{wordOf}
 use Rattle.words.specs.Words.{bytesOf}
 use Rattle.conic.specs.declared.State.{State}
 use Rattle.conic.specs.declared.Problem.{Problem}
 use Rattle.conic.specs.Said as conic
+use Rattle.card.specs.declared.Kind.{Kind}
 use Rattle.card.specs.declared.Kind.the-variants as kind
-use Rattle.card.specs.Fields.{Card}
+use Rattle.card.specs.Fields.{Card, problemSize, answerSize}
 
 -- numbers as words of eight bytes
 unfoldable pub numbersBytes : List Float → List ℕ
@@ -24,13 +26,28 @@ problemBytes p = numbersBytes (p .mu ∷ p .r .x ∷ p .r .y ∷ p .r .z ∷ p .
 abbrev pub spare : List ℕ
 spare = bytesOf 4 0
 
--- The deck 5: problem, x, position, velocity, 128 bytes
-abbrev pub solvedBody : (given : List ℕ) → Float → State → List ℕ
-solvedBody given x state = given ++ (spare ++ numbersBytes (x ∷ state .r .x ∷ state .r .y ∷ state .r .z ∷ state .v .x ∷ state .v .y ∷ state .v .z ∷ []))
+-- The deck 4 to 6: a body: the problem, its spare, the answer, and the last spare of a refused card
+abbrev pub bodyOf : Kind → (given answer : List ℕ) → List ℕ
+bodyOf kind.Solved given answer = given ++ (spare ++ answer)
+bodyOf kind.Refused given answer = given ++ (spare ++ (answer ++ spare))
 
--- The deck 6: problem, the refusal's number, spare, 80 bytes
+-- Writing a deck 2: the fields in a body, without its spares; and the body that has these fields
+abbrev pub fieldsIn : Kind → (body : List ℕ) → List ℕ
+fieldsIn kind body = take problemSize body ++ take (answerSize kind) (drop (problemSize + 4) body)
+
+abbrev pub bodyFrom : Kind → (fields : List ℕ) → List ℕ
+bodyFrom kind fields = bodyOf kind (take problemSize fields) (drop problemSize fields)
+
+-- The deck 5: x, position and velocity
+abbrev pub solvedAnswer : Float → State → List ℕ
+solvedAnswer x state = numbersBytes (x ∷ state .r .x ∷ state .r .y ∷ state .r .z ∷ state .v .x ∷ state .v .y ∷ state .v .z ∷ [])
+
+abbrev pub solvedBody : (given : List ℕ) → Float → State → List ℕ
+solvedBody given x state = bodyOf kind.Solved given (solvedAnswer x state)
+
+-- The deck 6: the refusal's number
 abbrev pub refusedBody : (given : List ℕ) → ℕ → List ℕ
-refusedBody given k = given ++ (spare ++ (bytesOf 4 k ++ spare))
+refusedBody given k = bodyOf kind.Refused given (bytesOf 4 k)
 
 abbrev pub cardFor : (given : List ℕ) → conic.Said → Card
 cardFor given (conic.solved x n state) = record { kind = kind.Solved; body = solvedBody given x state }

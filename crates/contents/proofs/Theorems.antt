@@ -16,7 +16,7 @@ use Rattle.contents.specs.declared.Contents.{Contents}
 use Rattle.contents.specs.declared.Contents.the-variants as contents
 use Rattle.contents.specs.Said.{reasonNumber, entered, listed}
 
--- a reason by its number, from 30 on
+-- a reason by its number, from 30 on; the last one, 46, is behind them all
 abbrev reasons : List Reason
 reasons =
     why.TooShort
@@ -29,10 +29,12 @@ reasons =
     ∷ why.BodyPastEnd
     ∷ why.BytesLeftOver
     ∷ why.ListTooShort
+    ∷ why.TooManyGiven
+    ∷ why.NoRoom
     ∷ []
 
 abbrev pub reasonOf : ℕ → Reason
-reasonOf k = getD reasons (k - 30) why.TooShort
+reasonOf k = getD reasons (k - 30) why.BytesDoNotFit
 
 pub reason-is : (r : Reason) → reasonOf (reasonNumber r) ≡ r
 reason-is why.TooShort = refl
@@ -45,6 +47,9 @@ reason-is why.WrongOffset = refl
 reason-is why.BodyPastEnd = refl
 reason-is why.BytesLeftOver = refl
 reason-is why.ListTooShort = refl
+reason-is why.TooManyGiven = refl
+reason-is why.NoRoom = refl
+reason-is why.BytesDoNotFit = refl
 
 -- an entry's answer
 abbrev unentered : Checked Kind → Entry

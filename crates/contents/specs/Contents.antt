@@ -9,8 +9,21 @@ use Rattle.card.specs.declared.Kind.{Kind}
 use Rattle.card.specs.Fields.{Card, kindOf, sizeOf}
 
 -- The deck 1 to 3: version and count, then an entry of three u32 for each card: where entry i begins, and the bodies after the last one
+abbrev pub headerSize : ℕ
+headerSize = 8
+
+abbrev pub entrySize : ℕ
+entrySize = 12
+
 abbrev pub entryAt : ℕ → ℕ
-entryAt i = 8 + 12 * i
+entryAt i = headerSize + entrySize * i
+
+-- The deck 1: the version, and the most cards
+abbrev pub theVersion : ℕ
+theVersion = 1
+
+abbrev pub mostCards : ℕ
+mostCards = 256
 
 abbrev pub versionOf : List ℕ → ℕ
 versionOf deck = valueAt 4 deck 0
@@ -49,9 +62,9 @@ cardsFrom deck (suc left) i at =
 unfoldable pub cardsOf : List ℕ → Checked (List Card)
 cardsOf deck =
     let count = countOf deck in
-    must (leb 8 (length deck)) 30
-    (must (eqb (versionOf deck) 1) 31
-    (must (leb count 256) 32
+    must (leb headerSize (length deck)) 30
+    (must (eqb (versionOf deck) theVersion) 31
+    (must (leb count mostCards) 32
     (must (leb (entryAt count) (length deck)) 33
     (cardsFrom deck count 0 (entryAt count)))))
 

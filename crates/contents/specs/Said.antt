@@ -9,7 +9,7 @@ use Rattle.contents.specs.declared.Entry.the-variants as entry
 use Rattle.contents.specs.declared.Contents.{Contents}
 use Rattle.contents.specs.declared.Contents.the-variants as contents
 
--- the number that the table of refused decks gives to each reason
+-- the number that the tables of refused decks give to each reason
 abbrev pub reasonNumber : Reason → ℕ
 reasonNumber why.TooShort = 30
 reasonNumber why.OtherVersion = 31
@@ -21,6 +21,9 @@ reasonNumber why.WrongOffset = 36
 reasonNumber why.BodyPastEnd = 37
 reasonNumber why.BytesLeftOver = 38
 reasonNumber why.ListTooShort = 39
+reasonNumber why.TooManyGiven = 40
+reasonNumber why.NoRoom = 41
+reasonNumber why.BytesDoNotFit = 46
 
 -- an entry's kind, or the number of its refusal
 abbrev pub entered : Entry → Checked Kind

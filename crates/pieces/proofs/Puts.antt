@@ -62,6 +62,11 @@ puts {before} {middle} {after} {s} {t} {at} {next} {end} p q =
           ∙ sym (sets-append before at s t);
     }
 
+-- a piece for which there is room, written at once
+pub at-once : (l : List ℕ) (at : ℕ) (s : List ℕ) → at + length s ≤ length l → Put l at s (sets l at s) (at + length s)
+unfolding putIn endIn
+at-once l at s h = record { ends = sym (min-eq-left h); holds = refl }
+
 -- a piece known by another name
 pub renamed : {before after piece other : List ℕ} {at end : ℕ} → piece ≡ other → Put before at piece after end → Put before at other after end
 renamed {before} {after} {at = at} {end = end} e p = subst (λ (l : List ℕ). Put before at l after end) e p

@@ -1,0 +1,17 @@
+-- `card::Kind::packed` meets its contract: each kind is one case of the definition.
+use mathlib.Core.Path.{refl}
+use Rattle.card.specs.Fields.{answerSize}
+use borrow.Author.Needs.{needs}
+use Rattle.card.proofs.Kind.packed.Statement.{statement}
+use Rattle.card.proofs.Kind.packed.Tie as tie
+
+returns : tie.Need-returns
+unfolding answerSize
+returns c = rw (c .enum-told .given .1) refl
+
+returns-2 : tie.Need-returns-2
+unfolding answerSize
+returns-2 c = rw (c .enum-told2 .given .1) refl
+
+pub packed-spec : {M : Type 1} → statement M
+packed-spec = tie.close (tie.spec (λ c. search needs) (λ c. search needs) returns returns-2)
