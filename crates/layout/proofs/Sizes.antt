@@ -1,0 +1,39 @@
+-- How many bytes a deck has that is made of cards whose bodies have their kinds' sizes.
+use mathlib.Core.Path.{_≡_, refl, ap, _∙_}
+use mathlib.Core.List.{List, [], _∷_, _++_}
+use Prim.Native.Nat.{ℕ, _+_, _*_, _≤_}
+use native.Mathlib.Omega.{arith}
+use lib.ListN.{length, length-append}
+use Rattle.words.specs.Words.{bytesOf}
+use Rattle.words.proofs.Written.{length-bytes}
+use Rattle.card.specs.declared.Kind.{Kind}
+use Rattle.card.specs.Fields.{Card, kindNumber, sizeOf}
+use Rattle.card.proofs.Sizes.{size-most}
+use Rattle.contents.specs.Contents.{entrySize, entryAt, theVersion, mostCards, largestDeck}
+use Rattle.layout.specs.Layout.{entryFor, entriesFrom, bodiesOf, deckOf}
+
+-- each body has the size of its kind
+abbrev pub AllSized : List Card → Type 0
+AllSized [] = Unit
+AllSized (c ∷ cards) = (length (c .body) ≡ sizeOf (c .kind)) × AllSized cards
+
+pub length-entry : (kind : Kind) (at : ℕ) → length (entryFor kind at) ≡ entrySize
+length-entry kind at = simp (length-append, length-bytes)
+
+pub length-entries : (at : ℕ) (cards : List Card) → length (entriesFrom at cards) ≡ entrySize * length cards
+unfolding entriesFrom
+length-entries at [] = refl
+length-entries at (c ∷ cards) = length-append (entryFor (c .kind) at) _ ∙ ap (λ (n : ℕ). n + length (entriesFrom (at + sizeOf (c .kind)) cards)) (length-entry (c .kind) at) ∙ rw (length-entries (at + sizeOf (c .kind)) cards) (omega arith)
+
+pub length-deck : (cards : List Card) → length (deckOf cards) ≡ entryAt (length cards) + length (bodiesOf cards)
+unfolding deckOf
+length-deck cards = simp (length-append, length-bytes, length-entries (entryAt (length cards)) cards) (omega arith)
+
+-- no more than the largest deck's
+bodies-most : (cards : List Card) → AllSized cards → length (bodiesOf cards) ≤ 128 * length cards
+unfolding bodiesOf
+bodies-most [] w = omega arith
+bodies-most (c ∷ cards) w = simp length-append (omega (arith, w .0, size-most (c .kind), bodies-most cards (w .1)))
+
+pub deck-most : (cards : List Card) → length cards ≤ mostCards → AllSized cards → length (deckOf cards) ≤ largestDeck
+deck-most cards h w = omega (arith, length-deck cards, bodies-most cards w)
