@@ -3,10 +3,10 @@
 use mathlib.Core.Path.{_≡_, refl, sym, ap, subst, _∙_}
 use mathlib.Core.List.{List, [], _∷_}
 use Prim.Native.Nat.{ℕ, zero, suc, _+_, _≤_}
-use borrow.Author.Tests.{leb-true}
-use lib.Dec.{eqb, leb}
+use borrow.Author.Tests.{eqb-true, leb-true}
+use lib.Dec.{eqb}
 use lib.ListN.{length, take, drop}
-use Rattle.rows.specs.Rows.{Checked, pass, refuse, must, onward}
+use Rattle.rows.specs.Rows.{Checked, pass, refuse, onward}
 use Rattle.rows.proofs.Laws.{pass-once, test-passed, rows-passed}
 use Rattle.card.specs.declared.Kind.{Kind}
 use Rattle.card.specs.Fields.{Card, sizeOf}
@@ -16,21 +16,29 @@ use Rattle.contents.specs.Contents.{kindAt, offsetAt, lengthAt, entryIn,
 abbrev pub cardAt : List ℕ → Kind → (at : ℕ) → Card
 cardAt deck kind at = record { kind = kind; body = take (sizeOf kind) (drop at deck) }
 
--- an entry that passed names its kind, and has its body inside the deck
-entry-means : (deck : List ℕ) (i at : ℕ) (kind : Kind) → entryIn deck i at ≡ pass kind → (kindAt deck i ≡ pass kind) × (at + sizeOf kind ≤ length deck)
+-- an entry that passed names its kind and its body's length and offset, and has its body inside the deck
+pub record EntryMeans (deck : List ℕ) (i at : ℕ) (kind : Kind) : Type 0 where
+  pub kind-is : kindAt deck i ≡ pass kind
+  pub length-is : lengthAt deck i ≡ sizeOf kind
+  pub offset-is : offsetAt deck i ≡ at
+  pub inside : at + sizeOf kind ≤ length deck
+
+pub entry-means : (deck : List ℕ) (i at : ℕ) (kind : Kind) → entryIn deck i at ≡ pass kind → EntryMeans deck i at kind
 unfolding entryIn
 entry-means deck i at kind h =
-    let K = rows-passed (kindAt deck i) (λ kind. must (eqb (lengthAt deck i) (sizeOf kind)) 35 (must (eqb (offsetAt deck i) at) 36 (must (leb (at + sizeOf kind) (length deck)) 37 (pass kind)))) h in
-    let k : Kind = K .0 in
-    let inside = leb (at + sizeOf k) (length deck) in
-    let length-row = test-passed (eqb (lengthAt deck i) (sizeOf k)) 35 (must (eqb (offsetAt deck i) at) 36 (must inside 37 (pass k))) (K .2) in
-    let offset-row = test-passed (eqb (offsetAt deck i) at) 36 (must inside 37 (pass k)) (length-row .1) in
-    let end-row = test-passed inside 37 (pass k) (offset-row .1) in
-    let is : k ≡ kind = pass-once (end-row .1) in
-    (K .1 ∙ ap pass is, rw is at (leb-true (at + sizeOf k) (length deck) (end-row .0)))
+    let K = rows-passed (kindAt deck i) _ h in
+    let length-row = test-passed _ 35 _ (K .2) in
+    let offset-row = test-passed _ 36 _ (length-row .1) in
+    let end-row = test-passed _ 37 _ (offset-row .1) in
+    subst (EntryMeans deck i at) (pass-once (end-row .1)) (record {
+      kind-is = K .1;
+      length-is = eqb-true (lengthAt deck i) (sizeOf (K .0)) (length-row .0);
+      offset-is = eqb-true (offsetAt deck i) at (offset-row .0);
+      inside = leb-true (at + sizeOf (K .0)) (length deck) (end-row .0);
+    })
 
 pub entry-inside : (deck : List ℕ) (i at : ℕ) (kind : Kind) → entryIn deck i at ≡ pass kind → at + sizeOf kind ≤ length deck
-entry-inside deck i at kind h = entry-means deck i at kind h .1
+entry-inside deck i at kind h = entry-means deck i at kind h .inside
 
 module _ (deck : List ℕ) (left i at : ℕ) where
   -- a card in front of the rest
@@ -80,4 +88,4 @@ pub kinds-named : (deck : List ℕ) (left i at : ℕ) (cards : List Card) → ca
 kinds-named deck zero i at cards h = subst (KindsFrom deck i) (sym (no-more deck i at cards h)) tt
 kinds-named deck (suc left) i at cards h =
     let m = one-more deck left i at cards h in
-    subst (KindsFrom deck i) (sym (m .cards-is)) (entry-means deck i at (m .kind) (m .entry) .0, kinds-named deck left (i + 1) (at + sizeOf (m .kind)) (m .rest) (m .others))
+    subst (KindsFrom deck i) (sym (m .cards-is)) (entry-means deck i at (m .kind) (m .entry) .kind-is, kinds-named deck left (i + 1) (at + sizeOf (m .kind)) (m .rest) (m .others))
