@@ -39,11 +39,11 @@ cards-sized deck cards h =
 -- ---- the bytes
 
 -- from `at` on stand the first n bytes there, then the others
-stands : (l : List ℕ) (at n : ℕ) → drop at l ≡ take n (drop at l) ++ drop (at + n) l
+pub stands : (l : List ℕ) (at n : ℕ) → drop at l ≡ take n (drop at l) ++ drop (at + n) l
 stands l at n = sym (take-append-drop n (drop at l)) ∙ ap (λ (rest : List ℕ). take n (drop at l) ++ rest) (drop-drop n at l)
 
 -- where a number is read, its bytes stand
-number-stands : (l : List ℕ) (at end n : ℕ) → Bytes l → at + 4 ≡ end → end ≤ length l → valueAt 4 l at ≡ n → drop at l ≡ bytesOf 4 n ++ drop end l
+pub number-stands : (l : List ℕ) (at end n : ℕ) → Bytes l → at + 4 ≡ end → end ≤ length l → valueAt 4 l at ≡ n → drop at l ≡ bytesOf 4 n ++ drop end l
 number-stands l at end n b w inside is = stands l at 4 ∙ ap₂ _++_ (sym (bytes-valueAt 4 l at (omega (arith, w, inside)) b) ∙ ap (bytesOf 4) is) (ap (λ (k : ℕ). drop k l) w)
 
 -- where an entry passes, it stands

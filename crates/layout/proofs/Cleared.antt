@@ -1,0 +1,69 @@
+-- Clearing the spares of cards whose spares are 0 changes nothing: four bytes below 256 whose value is 0 are the bytes of 0, and a body is the
+-- problem, its spare, the answer and, on a refused card, the last spare.
+use mathlib.Core.Path.{_≡_, refl, sym, ap, ap₂, subst, _∙_}
+use mathlib.Core.List.{List, [], _∷_, _++_, map, append-nil}
+use Prim.Native.Nat.{ℕ, zero, suc, _+_, _≤_}
+use native.Mathlib.Omega.{arith}
+use lib.ListN.{length, take, drop, length-drop, drop-of-length-le}
+use lib.Seq.{length-take-le, take-all, take-at, drop-at}
+use Rattle.words.proofs.Written.{Bytes, bytes-behind}
+use Rattle.rows.specs.Rows.{pass}
+use Rattle.card.specs.declared.Kind.{Kind}
+use Rattle.card.specs.declared.Kind.the-variants as kind
+use Rattle.card.specs.Fields.{Card, problemSize, answerSize, sizeOf, spareOf, lastSpareOf}
+use Rattle.card.specs.Made.{spare, bodyOf, fieldsIn, bodyFrom}
+use Rattle.contents.specs.Contents.{entryAt, countOf, cardsFrom, cardsOf}
+use Rattle.contents.proofs.Cards.{one-more, no-more}
+use Rattle.contents.proofs.Opened.{opened-to}
+use Rattle.layout.specs.Packed.{cleared}
+use Rattle.layout.proofs.Sizes.{AllSized}
+use Rattle.layout.proofs.WriteBack.{sized-from, stands, number-stands}
+
+-- the spares of a body are 0, and those of each card
+abbrev pub SpareZero : Kind → List ℕ → Type 0
+SpareZero kind.Solved body = spareOf body ≡ 0
+SpareZero kind.Refused body = (spareOf body ≡ 0) × (lastSpareOf body ≡ 0)
+
+abbrev pub SparesZero : List Card → Type 0
+SparesZero [] = Unit
+SparesZero (c ∷ cards) = SpareZero (c .kind) (c .body) × SparesZero cards
+
+-- the fields of a body come apart again
+fields-apart : (kind : Kind) (body : List ℕ) → problemSize ≤ length body → bodyFrom kind (fieldsIn kind body) ≡ bodyOf kind (take problemSize body) (take (answerSize kind) (drop (problemSize + 4) body))
+fields-apart kind body long =
+    let given = take problemSize body in
+    let answer = take (answerSize kind) (drop (problemSize + 4) body) in
+    let size = length-take-le problemSize body long in
+    ap₂ (bodyOf kind) (take-at given answer problemSize size) (drop-at given answer problemSize size)
+
+pub body-cleared : (kind : Kind) (body : List ℕ) → length body ≡ sizeOf kind → Bytes body → SpareZero kind body → bodyFrom kind (fieldsIn kind body) ≡ body
+unfolding sizeOf answerSize
+body-cleared kind.Solved body size b z =
+    let spare-stands = number-stands body 68 72 0 b refl (omega arith) z in
+    let answer-all : take 56 (drop 72 body) ≡ drop 72 body = take-all 56 (drop 72 body) (simp length-drop (omega arith)) in
+    fields-apart kind.Solved body (omega arith) ∙ rw (answer-all, ← spare-stands) (sym (stands body 0 68))
+body-cleared kind.Refused body size b z =
+    let spare-stands = number-stands body 68 72 0 b refl (omega arith) (z .0) in
+    let last-stands : drop 76 body ≡ spare = number-stands body 76 80 0 b refl (omega arith) (z .1) ∙ ap (λ (rest : List ℕ). spare ++ rest) (drop-of-length-le body {i = 80} (omega arith)) ∙ append-nil spare in
+    let answer-stands : drop 72 body ≡ take 4 (drop 72 body) ++ spare = stands body 72 4 ∙ ap (λ (rest : List ℕ). take 4 (drop 72 body) ++ rest) last-stands in
+    fields-apart kind.Refused body (omega arith) ∙ rw (← answer-stands, ← spare-stands) (sym (stands body 0 68))
+
+-- the first bytes of bytes
+bytes-first : (n : ℕ) (l : List ℕ) → Bytes l → Bytes (take n l)
+bytes-first zero l b i = omega arith
+bytes-first (suc n) [] b i = omega arith
+bytes-first (suc n) (x ∷ l) b zero = b 0
+bytes-first (suc n) (x ∷ l) b (suc i) = bytes-first n l (λ j. b (suc j)) i
+
+cleared-from : (deck : List ℕ) (left i at : ℕ) (cards : List Card) → Bytes deck → cardsFrom deck left i at ≡ pass cards → SparesZero cards → map cleared cards ≡ cards
+cleared-from deck zero i at cards b h z = rw (no-more deck i at cards h) refl
+cleared-from deck (suc left) i at cards b h z =
+    let m = one-more deck left i at cards h in
+    let kind = m .kind in
+    let size = subst AllSized (m .cards-is) (sized-from deck (suc left) i at cards h) .0 in
+    let zeros = subst SparesZero (m .cards-is) z in
+    let body-is = body-cleared kind (take (sizeOf kind) (drop at deck)) size (bytes-first (sizeOf kind) (drop at deck) (bytes-behind deck at b)) (zeros .0) in
+    rw (m .cards-is) (ap₂ _∷_ (ap (λ (body : List ℕ). record { kind = kind; body = body }) body-is) (cleared-from deck left (i + 1) (at + sizeOf kind) (m .rest) b (m .others) (zeros .1)))
+
+pub cleared-same : (deck : List ℕ) (cards : List Card) → Bytes deck → cardsOf deck ≡ pass cards → SparesZero cards → map cleared cards ≡ cards
+cleared-same deck cards b h z = cleared-from deck (countOf deck) 0 (entryAt (countOf deck)) cards b (opened-to deck cards h .1) z
