@@ -1,4 +1,5 @@
 pub mod Sizes
+pub mod Packed
 pub mod Numbers
 pub mod Theorems
 pub mod Fixed

@@ -2,7 +2,7 @@
 //
 // The function here is proved and total, and the crate assumes nothing.
 use apart::Apart;
-use writer::Written;
+use layout::Written;
 
 // Copies a deck to the front of the buffer.
 pub fn copy(deck: &[u8], buffer: &mut [u8]) -> Written {

@@ -1,5 +1,5 @@
 // Copies a deck.
-use writer::Written;
+use layout::Written;
 
 // One byte more than the largest deck has.
 const MOST: usize = 35849;

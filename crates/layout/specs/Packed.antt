@@ -7,6 +7,7 @@ use Rattle.rows.specs.Rows.{Checked, pass, refuse, must, onward}
 use Rattle.card.specs.declared.Kind.{Kind}
 use Rattle.card.specs.Fields.{Card, kindOf, kindNumber, packedSize}
 use Rattle.card.specs.Made.{fieldsIn, bodyFrom}
+use Rattle.contents.specs.Contents.{mostCards}
 
 -- Writing a deck 5: the kinds and the fields of cards
 abbrev pub kindsOf : List Card → List ℕ
@@ -30,11 +31,12 @@ packedCards (n ∷ kinds) fields =
     (onward (packedCards kinds (drop (packedSize kind) fields)) (λ rest.
     pass (packedCard kind (take (packedSize kind) fields) ∷ rest))))
 
+-- 40 first, where there are more than 256
+unfoldable pub finishedCards : (kinds fields : List ℕ) → Checked (List Card)
+finishedCards kinds fields =
+    must (leb (length kinds) mostCards) 40
+    (packedCards kinds fields)
+
 -- Writing a deck 6: a card whose spares are 0, whatever they were
 abbrev pub cleared : Card → Card
 cleared c = packedCard (c .kind) (fieldsIn (c .kind) (c .body))
-
--- the cards that a row of tests came to; none where it refused
-abbrev pub cardsIn : Checked (List Card) → List Card
-cardsIn (pass cards) = cards
-cardsIn (refuse k) = []

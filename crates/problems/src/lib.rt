@@ -7,7 +7,7 @@ use conic::Outcome;
 use conic::Problem;
 use conic::State;
 use contents::Reason;
-use writer::Written;
+use layout::Written;
 
 // A card: the problem and its answer, and beside the problem's numbers the words that were given for
 // them, since a NaN among them may have any payload.

@@ -1,5 +1,5 @@
 // Writes a deck: reads problems from standard input.
-use writer::Written;
+use layout::Written;
 
 // 257 problems: what is behind them changes nothing.
 const MOST: usize = 17476;

@@ -1,0 +1,64 @@
+-- Fields without spares and the bodies that have them: how many bytes each has, and that a body gives back the fields that it was made of.
+use mathlib.Core.Path.{_≡_, refl, sym, ap, ap₂, _∙_}
+use mathlib.Core.List.{List, _++_}
+use Prim.Native.Nat.{ℕ, _+_, _-_, _≤_}
+use native.Mathlib.Omega.{arith}
+use lib.ListN.{length, take, drop, length-append, length-take, length-drop, take-append-drop}
+use lib.Seq.{length-take-le, take-all, take-at, drop-at, drop-drop}
+use Rattle.words.proofs.Written.{length-bytes}
+use Rattle.card.specs.declared.Kind.{Kind}
+use Rattle.card.specs.declared.Kind.the-variants as kind
+use Rattle.card.specs.Fields.{sizeOf, problemSize, answerSize, packedSize}
+use Rattle.card.specs.Made.{spare, bodyOf, fieldsIn, bodyFrom}
+
+-- a problem has its bytes, and so has the answer behind it
+given-size : (k : Kind) (f : List ℕ) → length f ≡ packedSize k → length (take problemSize f) ≡ problemSize
+given-size k f h = length-take-le problemSize f (omega (arith, h))
+
+answer-size : (k : Kind) (f : List ℕ) → length f ≡ packedSize k → length (drop problemSize f) ≡ answerSize k
+answer-size k f h = rw (length-drop problemSize f, h) (omega arith)
+
+pub body-size : (k : Kind) (given answer : List ℕ) → length given ≡ problemSize → length answer ≡ answerSize k → length (bodyOf k given answer) ≡ sizeOf k
+unfolding sizeOf answerSize
+body-size kind.Solved given answer g a = simp (length-append, length-bytes, g, a)
+body-size kind.Refused given answer g a = simp (length-append, length-bytes, g, a)
+
+pub length-body : (k : Kind) (f : List ℕ) → length f ≡ packedSize k → length (bodyFrom k f) ≡ sizeOf k
+length-body k f h = body-size k (take problemSize f) (drop problemSize f) (given-size k f h) (answer-size k f h)
+
+-- a body has room for problem, spare and answer
+room : (k : Kind) → problemSize + 4 + answerSize k ≤ sizeOf k
+unfolding sizeOf answerSize
+room kind.Solved = omega arith
+room kind.Refused = omega arith
+
+pub length-fields : (k : Kind) (body : List ℕ) → length body ≡ sizeOf k → length (fieldsIn k body) ≡ packedSize k
+length-fields k body h =
+    let first : length (take problemSize body) ≡ problemSize = length-take-le problemSize body (omega (arith, h, room k)) in
+    let left : length (drop (problemSize + 4) body) ≡ length body - (problemSize + 4) = length-drop (problemSize + 4) body in
+    let second : length (take (answerSize k) (drop (problemSize + 4) body)) ≡ answerSize k = length-take-le (answerSize k) (drop (problemSize + 4) body) (omega (arith, h, left, room k)) in
+    length-append (take problemSize body) _ ∙ ap₂ _+_ first second
+
+-- what stands behind the problem's spare begins with the answer
+behind : (k : Kind) (given answer : List ℕ) → length given ≡ problemSize → length answer ≡ answerSize k → take (answerSize k) (drop (problemSize + 4) (bodyOf k given answer)) ≡ answer
+behind kind.Solved given answer g a =
+    ap (take (answerSize kind.Solved)) (sym (drop-drop 4 problemSize (bodyOf kind.Solved given answer)) ∙ ap (drop 4) (drop-at given (spare ++ answer) problemSize g) ∙ drop-at spare answer 4 (length-bytes 4 0))
+    ∙ take-all (answerSize kind.Solved) answer (omega (arith, a))
+behind kind.Refused given answer g a =
+    ap (take (answerSize kind.Refused)) (sym (drop-drop 4 problemSize (bodyOf kind.Refused given answer)) ∙ ap (drop 4) (drop-at given (spare ++ (answer ++ spare)) problemSize g) ∙ drop-at spare (answer ++ spare) 4 (length-bytes 4 0))
+    ∙ take-at answer spare (answerSize kind.Refused) a
+
+begins : (k : Kind) (given answer : List ℕ) → length given ≡ problemSize → take problemSize (bodyOf k given answer) ≡ given
+begins kind.Solved given answer g = take-at given (spare ++ answer) problemSize g
+begins kind.Refused given answer g = take-at given (spare ++ (answer ++ spare)) problemSize g
+
+-- a body gives back problem and answer
+pub fields-of-body : (k : Kind) (given answer : List ℕ) → length given ≡ problemSize → length answer ≡ answerSize k → fieldsIn k (bodyOf k given answer) ≡ given ++ answer
+fields-of-body k given answer g a = ap₂ _++_ (begins k given answer g) (behind k given answer g a)
+
+pub fields-back : (k : Kind) (f : List ℕ) → length f ≡ packedSize k → fieldsIn k (bodyFrom k f) ≡ f
+fields-back k f h = fields-of-body k (take problemSize f) (drop problemSize f) (given-size k f h) (answer-size k f h) ∙ take-append-drop problemSize f
+
+-- and problem and answer give the body
+pub body-back : (k : Kind) (given answer : List ℕ) → length given ≡ problemSize → bodyFrom k (given ++ answer) ≡ bodyOf k given answer
+body-back k given answer g = ap₂ (bodyOf k) (take-at given answer problemSize g) (drop-at given answer problemSize g)
