@@ -78,7 +78,7 @@ fn fill(kinds: &[u32], fields: &[u8], buffer: &mut [u8]) -> usize
 
 // An entry for each kind.
 fn entries(kinds: &[u32], buffer: &mut [u8], start: usize) -> usize
-    requires { ⌜ length (now kinds) ≤ mostCards ⌝ }
+    requires { ⌜ (length (now kinds) ≤ mostCards) × (start ≤ length (now buffer)) ⌝ }
     ensures { λ r. ⌜ ((cards : List Card) → kindsOf cards ≡ now (kinds .entry) → Put (now (buffer .entry)) start (entriesFrom (entryAt (length cards)) cards) (now (buffer .exit)) r) ⌝ }
 {
     let mut offset = contents::HEADER + contents::ENTRY * kinds.len();
@@ -106,7 +106,7 @@ fn entry(kind: Kind, offset: usize, buffer: &mut [u8], start: usize) -> usize
 
 // The body of each card.
 fn bodies(kinds: &[u32], fields: &[u8], buffer: &mut [u8], start: usize) -> usize
-    requires { ⌜ Passes (packedCards (now kinds) (now fields)) ⌝ }
+    requires { ⌜ Passes (packedCards (now kinds) (now fields)) × (start ≤ length (now buffer)) ⌝ }
     ensures { λ r. ⌜ ((cards : List Card) → packedCards (now (kinds .entry)) (now (fields .entry)) ≡ pass cards → Put (now (buffer .entry)) start (bodiesOf cards) (now (buffer .exit)) r) ⌝ }
 {
     let mut at = 0;

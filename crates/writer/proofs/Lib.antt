@@ -1,0 +1,3 @@
+mod Measuring
+mod Entering
+mod Laying
