@@ -1,27 +1,22 @@
--- What the tests of a deck's contents tell: contents that are refused come to no cards; contents that pass have at most 256, which are the
--- cards from the first entry on.
+-- What the tests of a deck's contents tell: contents that pass have the version and at most 256 cards, which are the cards from the first entry
+-- on.
 use mathlib.Core.Path.{_≡_, refl, sym, subst, _∙_}
-use mathlib.Core.Bool.{true≢false}
 use mathlib.Core.List.{List}
 use Prim.Native.Nat.{ℕ, _≤_}
-use borrow.Author.Tests.{leb-true}
+use borrow.Author.Tests.{eqb-true, leb-true}
 use lib.Dec.{eqb, leb}
 use lib.ListN.{length}
-use Rattle.rows.specs.Rows.{Checked, pass, refuse, must, onward}
+use Rattle.rows.specs.Rows.{pass, must, onward}
 use Rattle.rows.proofs.Laws.{pass-once, test-passed, rows-passed}
 use Rattle.card.specs.Fields.{Card}
-use Rattle.contents.specs.Contents.{entryAt, versionOf, countOf, cardsFrom, cardsOf, counting, Passes}
+use Rattle.contents.specs.Contents.{entryAt, theVersion, mostCards, versionOf, countOf, cardsFrom, cardsOf, counting, Passes}
 use Rattle.contents.proofs.Cards.{KindsFrom, kinds-named}
-
--- a count that is refused is the refusal of the contents
-pub counting-refused : (count : ℕ) (m : Checked (List Card)) (k : ℕ) → counting count m ≡ refuse k → m ≡ refuse k
-unfolding onward
-counting-refused count (pass cards) k h = absurd (true≢false cc)
-counting-refused count (refuse n) k h = cc
 
 pub record Opened (deck : List ℕ) (count : ℕ) : Type 0 where
   pub is : count ≡ countOf deck
-  pub most : count ≤ 256
+  pub version : versionOf deck ≡ theVersion
+  pub most : count ≤ mostCards
+  pub inside : entryAt count ≤ length deck
   pub cards-are : cardsOf deck ≡ cardsFrom deck count 0 (entryAt count)
   pub passes : Passes (cardsFrom deck count 0 (entryAt count))
 
@@ -38,7 +33,9 @@ opened deck count h =
     let fourth = test-passed (leb (entryAt n) (length deck)) 33 cards (third .1) in
     rw (← is) (record {
       is = refl;
-      most = leb-true n 256 (third .0);
+      version = eqb-true (versionOf deck) theVersion (second .0);
+      most = leb-true n mostCards (third .0);
+      inside = leb-true (entryAt n) (length deck) (fourth .0);
       cards-are = P .1 ∙ sym (fourth .1);
       passes = subst Passes (sym (fourth .1)) tt;
     })

@@ -5,9 +5,10 @@ use Prim.Native.Nat.{ℕ, _≤_, _<_}
 use borrow.Author.Tests.{le-leb, lt-leb}
 use lib.ListN.{length}
 use Rattle.rows.specs.Rows.{refuse, must, onward}
+use Rattle.rows.proofs.Laws.{row-refused}
 use Rattle.contents.specs.Contents.{entryAt, countOf, cardsFrom, cardsOf, counting}
 use Rattle.contents.proofs.Cards.{come-to-cards}
-use Rattle.contents.proofs.Opened.{counting-refused, Opened}
+use Rattle.contents.proofs.Opened.{Opened}
 use Rattle.deck.specs.Check.{judgedFrom, judgedOf, tallied, answerOf, written, listAfter}
 
 -- a check that comes to a refusal hands out the number and leaves the list
@@ -17,7 +18,7 @@ judged-refused deck list k h = (rw h refl, rw h refl)
 
 pub contents-refused : (deck list : List ℕ) (k : ℕ) → counting (countOf deck) (cardsOf deck) ≡ refuse k → (refuse k ≡ answerOf deck (length list)) × (list ≡ listAfter deck list)
 unfolding onward judgedOf
-contents-refused deck list k h = judged-refused deck list k (rw (counting-refused (countOf deck) (cardsOf deck) k h) refl)
+contents-refused deck list k h = judged-refused deck list k (rw (row-refused (cardsOf deck) (λ cards. countOf deck) h) refl)
 
 module _ (deck : List ℕ) (count : ℕ) (o : Opened deck count) (list : List ℕ) where
   too-short : length list < count → judgedOf deck (length list) ≡ refuse 39

@@ -5,19 +5,21 @@ use mathlib.Core.List.{List, [], _∷_, _++_, map, append-nil}
 use Prim.Native.Nat.{ℕ, zero, suc, _+_, _≤_}
 use native.Mathlib.Omega.{arith}
 use lib.ListN.{length, take, drop, length-drop, drop-of-length-le}
-use lib.Seq.{length-take-le, take-all, take-at, drop-at}
+use lib.Seq.{length-take-le, take-all}
 use Rattle.words.proofs.Written.{Bytes, bytes-behind}
+use Rattle.words.proofs.Standing.{stands, number-stands, bytes-first}
 use Rattle.rows.specs.Rows.{pass}
 use Rattle.card.specs.declared.Kind.{Kind}
 use Rattle.card.specs.declared.Kind.the-variants as kind
 use Rattle.card.specs.Fields.{Card, problemSize, answerSize, sizeOf, spareOf, lastSpareOf}
 use Rattle.card.specs.Made.{spare, bodyOf, fieldsIn, bodyFrom}
+use Rattle.card.proofs.Packed.{body-back}
 use Rattle.contents.specs.Contents.{entryAt, countOf, cardsFrom, cardsOf}
 use Rattle.contents.proofs.Cards.{one-more, no-more}
 use Rattle.contents.proofs.Opened.{opened-to}
 use Rattle.layout.specs.Packed.{cleared}
 use Rattle.layout.proofs.Sizes.{AllSized}
-use Rattle.layout.proofs.WriteBack.{sized-from, stands, number-stands}
+use Rattle.layout.proofs.WriteBack.{sized-from}
 
 -- the spares of a body are 0, and those of each card
 abbrev pub SpareZero : Kind → List ℕ → Type 0
@@ -30,30 +32,19 @@ SparesZero (c ∷ cards) = SpareZero (c .kind) (c .body) × SparesZero cards
 
 -- the fields of a body come apart again
 fields-apart : (kind : Kind) (body : List ℕ) → problemSize ≤ length body → bodyFrom kind (fieldsIn kind body) ≡ bodyOf kind (take problemSize body) (take (answerSize kind) (drop (problemSize + 4) body))
-fields-apart kind body long =
-    let given = take problemSize body in
-    let answer = take (answerSize kind) (drop (problemSize + 4) body) in
-    let size = length-take-le problemSize body long in
-    ap₂ (bodyOf kind) (take-at given answer problemSize size) (drop-at given answer problemSize size)
+fields-apart kind body long = body-back kind (take problemSize body) (take (answerSize kind) (drop (problemSize + 4) body)) (length-take-le problemSize body long)
 
 pub body-cleared : (kind : Kind) (body : List ℕ) → length body ≡ sizeOf kind → Bytes body → SpareZero kind body → bodyFrom kind (fieldsIn kind body) ≡ body
 unfolding sizeOf answerSize
 body-cleared kind.Solved body size b z =
-    let spare-stands = number-stands body 68 72 0 b refl (omega arith) z in
+    let spare-stands = number-stands 4 body 68 72 0 b refl (omega arith) z in
     let answer-all : take 56 (drop 72 body) ≡ drop 72 body = take-all 56 (drop 72 body) (simp length-drop (omega arith)) in
     fields-apart kind.Solved body (omega arith) ∙ rw (answer-all, ← spare-stands) (sym (stands body 0 68))
 body-cleared kind.Refused body size b z =
-    let spare-stands = number-stands body 68 72 0 b refl (omega arith) (z .0) in
-    let last-stands : drop 76 body ≡ spare = number-stands body 76 80 0 b refl (omega arith) (z .1) ∙ ap (λ (rest : List ℕ). spare ++ rest) (drop-of-length-le body {i = 80} (omega arith)) ∙ append-nil spare in
+    let spare-stands = number-stands 4 body 68 72 0 b refl (omega arith) (z .0) in
+    let last-stands : drop 76 body ≡ spare = number-stands 4 body 76 80 0 b refl (omega arith) (z .1) ∙ ap (λ (rest : List ℕ). spare ++ rest) (drop-of-length-le body {i = 80} (omega arith)) ∙ append-nil spare in
     let answer-stands : drop 72 body ≡ take 4 (drop 72 body) ++ spare = stands body 72 4 ∙ ap (λ (rest : List ℕ). take 4 (drop 72 body) ++ rest) last-stands in
     fields-apart kind.Refused body (omega arith) ∙ rw (← answer-stands, ← spare-stands) (sym (stands body 0 68))
-
--- the first bytes of bytes
-bytes-first : (n : ℕ) (l : List ℕ) → Bytes l → Bytes (take n l)
-bytes-first zero l b i = omega arith
-bytes-first (suc n) [] b i = omega arith
-bytes-first (suc n) (x ∷ l) b zero = b 0
-bytes-first (suc n) (x ∷ l) b (suc i) = bytes-first n l (λ j. b (suc j)) i
 
 cleared-from : (deck : List ℕ) (left i at : ℕ) (cards : List Card) → Bytes deck → cardsFrom deck left i at ≡ pass cards → SparesZero cards → map cleared cards ≡ cards
 cleared-from deck zero i at cards b h z = rw (no-more deck i at cards h) refl

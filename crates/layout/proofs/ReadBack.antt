@@ -6,10 +6,10 @@ use Prim.Native.Nat.{ℕ, _+_, _-_, _^_, _≤_, _<_}
 use native.Mathlib.Omega.{arith}
 use borrow.Author.Tests.{eq-eqb, le-leb}
 use lib.ListN.{length, take, drop, length-append, length-drop}
-use lib.Seq.{take-at, drop-drop, drop-append-seam}
-use Rattle.words.specs.Words.{value, valueAt, bytesOf}
-use Rattle.words.proofs.Value.{valueAt-inside}
-use Rattle.words.proofs.Written.{length-bytes, value-bytes}
+use lib.Seq.{take-at}
+use Rattle.words.specs.Words.{bytesOf}
+use Rattle.words.proofs.Written.{length-bytes}
+use Rattle.words.proofs.Standing.{past, read-there}
 use Rattle.rows.specs.Rows.{pass, must, onward}
 use Rattle.card.specs.declared.Kind.{Kind}
 use Rattle.card.specs.declared.Kind.the-variants as kind
@@ -19,16 +19,6 @@ use Rattle.contents.specs.Contents.{headerSize, entryAt, theVersion, mostCards,
 use Rattle.layout.specs.Layout.{entryFor, entriesFrom, bodiesOf, deckOf}
 use Rattle.layout.proofs.Sizes.{AllSized, length-entry, length-entries, length-deck, deck-most}
 use Rattle.layout.proofs.KindNumbers.{kind-of-number}
-
--- where a piece stands, what is behind it stands at its end
-past : (l piece rest : List ℕ) (at end : ℕ) → drop at l ≡ piece ++ rest → at + length piece ≡ end → drop end l ≡ rest
-past l piece rest at end e w = ap (λ (n : ℕ). drop n l) (sym w) ∙ sym (drop-drop (length piece) at l) ∙ ap (drop (length piece)) e ∙ drop-append-seam piece rest
-
--- where the four bytes of a number stand, it is read
-read-there : (l rest : List ℕ) (at n : ℕ) → drop at l ≡ bytesOf 4 n ++ rest → n < 256 ^ 4 → valueAt 4 l at ≡ n
-read-there l rest at n e w =
-    let inside : length l - at ≡ 4 + length rest = sym (length-drop at l) ∙ ap length e ∙ length-append (bytesOf 4 n) rest ∙ ap (λ (k : ℕ). k + length rest) (length-bytes 4 n) in
-    valueAt-inside 4 l at (omega (arith, inside)) ∙ ap (value 4) e ∙ value-bytes 4 n rest w
 
 number-small : (k : Kind) → kindNumber k < 256 ^ 4
 unfolding kindNumber
@@ -43,9 +33,9 @@ entry-passes deck rest i at kind e inside most =
     let kind-there : drop (entryAt i) deck ≡ bytesOf 4 (kindNumber kind) ++ (bytesOf 4 at ++ behind) = e ∙ simp append-assoc refl in
     let offset-there : drop (entryAt i + 4) deck ≡ bytesOf 4 at ++ behind = past deck (bytesOf 4 (kindNumber kind)) _ (entryAt i) (entryAt i + 4) kind-there (rw length-bytes refl) in
     let length-there : drop (entryAt i + 8) deck ≡ behind = past deck (bytesOf 4 at) _ (entryAt i + 4) (entryAt i + 8) offset-there (rw length-bytes (omega arith)) in
-    let kind-is : kindAt deck i ≡ pass kind = ap kindOf (read-there deck _ (entryAt i) (kindNumber kind) kind-there (number-small kind)) ∙ kind-of-number kind in
-    let offset-is : offsetAt deck i ≡ at = read-there deck _ (entryAt i + 4) at offset-there (omega arith) in
-    let length-is : lengthAt deck i ≡ sizeOf kind = read-there deck _ (entryAt i + 8) (sizeOf kind) length-there (omega (arith, size-most kind)) in
+    let kind-is : kindAt deck i ≡ pass kind = ap kindOf (read-there 4 deck _ (entryAt i) (kindNumber kind) kind-there (omega arith) (number-small kind)) ∙ kind-of-number kind in
+    let offset-is : offsetAt deck i ≡ at = read-there 4 deck _ (entryAt i + 4) at offset-there (omega arith) (omega arith) in
+    let length-is : lengthAt deck i ≡ sizeOf kind = read-there 4 deck _ (entryAt i + 8) (sizeOf kind) length-there (omega arith) (omega (arith, size-most kind)) in
     rw (kind-is, eq-eqb (lengthAt deck i) (sizeOf kind) length-is, eq-eqb (offsetAt deck i) at offset-is, le-leb (at + sizeOf kind) (length deck) inside) refl
 
 -- where entries and bodies of cards stand, these are the cards
@@ -78,8 +68,8 @@ read-back cards few w =
     let count-there : drop 4 deck ≡ bytesOf 4 n ++ (entries ++ bodiesOf cards) = past deck (bytesOf 4 theVersion) _ 0 4 (deck-is cards) (rw length-bytes refl) in
     let entries-there : drop (entryAt 0) deck ≡ entries ++ bodiesOf cards = past deck (bytesOf 4 n) _ 4 (entryAt 0) count-there (rw length-bytes refl) in
     let bodies-there : drop (entryAt n) deck ≡ bodiesOf cards = past deck entries _ (entryAt 0) (entryAt n) entries-there (rw (length-entries (entryAt n) cards) (omega arith)) in
-    let version-is : versionOf deck ≡ theVersion = read-there deck _ 0 theVersion (deck-is cards) (omega arith) in
-    let count-is : countOf deck ≡ n = read-there deck _ 4 n count-there (omega arith) in
+    let version-is : versionOf deck ≡ theVersion = read-there 4 deck _ 0 theVersion (deck-is cards) (omega arith) (omega arith) in
+    let count-is : countOf deck ≡ n = read-there 4 deck _ 4 n count-there (omega arith) (omega arith) in
     let long : entryAt n ≤ length deck = omega (arith, length-deck cards) in
     rw (count-is, eq-eqb (versionOf deck) theVersion version-is, le-leb headerSize (length deck) (omega arith), le-leb n mostCards few, le-leb (entryAt n) (length deck) long)
     (from-here deck (bodiesOf cards) cards 0 (entryAt n) entries-there bodies-there long (deck-most cards few w) w)

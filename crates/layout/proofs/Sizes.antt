@@ -1,15 +1,14 @@
 -- How many bytes a deck has that is made of cards whose bodies have their kinds' sizes.
 use mathlib.Core.Path.{_≡_, refl, ap, _∙_}
-use mathlib.Core.List.{List, [], _∷_, _++_}
+use mathlib.Core.List.{List, [], _∷_}
 use Prim.Native.Nat.{ℕ, _+_, _*_, _≤_}
 use native.Mathlib.Omega.{arith}
 use lib.ListN.{length, length-append}
-use Rattle.words.specs.Words.{bytesOf}
 use Rattle.words.proofs.Written.{length-bytes}
 use Rattle.card.specs.declared.Kind.{Kind}
-use Rattle.card.specs.Fields.{Card, kindNumber, sizeOf}
+use Rattle.card.specs.Fields.{Card, sizeOf}
 use Rattle.card.proofs.Sizes.{size-most}
-use Rattle.contents.specs.Contents.{entrySize, entryAt, theVersion, mostCards, largestDeck}
+use Rattle.contents.specs.Contents.{entrySize, entryAt, mostCards, largestDeck}
 use Rattle.layout.specs.Layout.{entryFor, entriesFrom, bodiesOf, deckOf}
 
 -- each body has the size of its kind

@@ -1,20 +1,20 @@
 -- An accepted deck is the layout of its cards, which are at most 256 and have their kinds' sizes: each number that was read is the bytes that
 -- stand there, each body is what it was taken from, and nothing is left over behind the last one.
-use mathlib.Core.Path.{_≡_, refl, sym, ap, ap₂, subst, _∙_}
+use mathlib.Core.Path.{_≡_, refl, sym, ap, subst, _∙_}
 use mathlib.Core.List.{List, [], _++_, append-assoc}
 use Prim.Native.Nat.{ℕ, zero, suc, _+_, _≤_}
 use native.Mathlib.Omega.{arith}
-use borrow.Author.Tests.{eqb-true, leb-true}
+use borrow.Author.Tests.{eqb-true}
 use lib.Dec.{eqb}
-use lib.ListN.{length, take, drop, take-append-drop, length-drop, drop-of-length-le}
-use lib.Seq.{length-take-le, drop-drop}
-use Rattle.words.specs.Words.{valueAt, bytesOf}
-use Rattle.words.proofs.Written.{Bytes, bytes-valueAt}
+use lib.ListN.{length, take, drop, length-drop, drop-of-length-le}
+use lib.Seq.{length-take-le}
+use Rattle.words.proofs.Written.{Bytes}
+use Rattle.words.proofs.Standing.{stands, number-stands}
 use Rattle.rows.specs.Rows.{pass}
 use Rattle.rows.proofs.Laws.{test-passed}
 use Rattle.card.specs.declared.Kind.{Kind}
 use Rattle.card.specs.Fields.{Card, kindNumber, sizeOf}
-use Rattle.contents.specs.Contents.{entryAt, theVersion, mostCards, versionOf, countOf, entryIn, cardsFrom, cardsOf}
+use Rattle.contents.specs.Contents.{entryAt, theVersion, mostCards, countOf, entryIn, cardsFrom, cardsOf}
 use Rattle.contents.proofs.Cards.{entry-means, entry-inside, one-more, no-more}
 use Rattle.contents.proofs.Opened.{opened-to}
 use Rattle.contents.proofs.Sizes.{few-cards}
@@ -38,21 +38,13 @@ cards-sized deck cards h =
 
 -- ---- the bytes
 
--- from `at` on stand the first n bytes there, then the others
-pub stands : (l : List ℕ) (at n : ℕ) → drop at l ≡ take n (drop at l) ++ drop (at + n) l
-stands l at n = sym (take-append-drop n (drop at l)) ∙ ap (λ (rest : List ℕ). take n (drop at l) ++ rest) (drop-drop n at l)
-
--- where a number is read, its bytes stand
-pub number-stands : (l : List ℕ) (at end n : ℕ) → Bytes l → at + 4 ≡ end → end ≤ length l → valueAt 4 l at ≡ n → drop at l ≡ bytesOf 4 n ++ drop end l
-number-stands l at end n b w inside is = stands l at 4 ∙ ap₂ _++_ (sym (bytes-valueAt 4 l at (omega (arith, w, inside)) b) ∙ ap (bytesOf 4) is) (ap (λ (k : ℕ). drop k l) w)
-
 -- where an entry passes, it stands
 entry-stands : (deck : List ℕ) (i at : ℕ) (kind : Kind) → Bytes deck → entryAt (i + 1) ≤ length deck → entryIn deck i at ≡ pass kind → drop (entryAt i) deck ≡ entryFor kind at ++ drop (entryAt (i + 1)) deck
 entry-stands deck i at kind b inside h =
     let m = entry-means deck i at kind h in
-    let kind-stands = number-stands deck (entryAt i) (entryAt i + 4) (kindNumber kind) b refl (omega arith) (sym (number-of-kind _ kind (m .kind-is))) in
-    let offset-stands = number-stands deck (entryAt i + 4) (entryAt i + 8) at b (omega arith) (omega arith) (m .offset-is) in
-    let length-stands = number-stands deck (entryAt i + 8) (entryAt (i + 1)) (sizeOf kind) b (omega arith) inside (m .length-is) in
+    let kind-stands = number-stands 4 deck (entryAt i) (entryAt i + 4) (kindNumber kind) b refl (omega arith) (sym (number-of-kind _ kind (m .kind-is))) in
+    let offset-stands = number-stands 4 deck (entryAt i + 4) (entryAt i + 8) at b (omega arith) (omega arith) (m .offset-is) in
+    let length-stands = number-stands 4 deck (entryAt i + 8) (entryAt (i + 1)) (sizeOf kind) b (omega arith) inside (m .length-is) in
     rw (kind-stands, offset-stands, length-stands) (simp append-assoc refl)
 
 entries-stand : (deck : List ℕ) (left i at : ℕ) (cards : List Card) → Bytes deck → entryAt (i + left) ≤ length deck → cardsFrom deck left i at ≡ pass cards → drop (entryAt i) deck ≡ entriesFrom at cards ++ drop (entryAt (i + left)) deck
@@ -75,22 +67,15 @@ bodies-stand deck (suc left) i at cards h =
     let size = sizeOf (m .kind) in
     stands deck at size ∙ ap (λ (rest : List ℕ). take size (drop at deck) ++ rest) (bodies-stand deck left (i + 1) (at + size) (m .rest) (m .others)) ∙ ap bodiesOf (sym (m .cards-is))
 
--- what the first tests of a deck that passes tell
-header-means : (deck : List ℕ) (cards : List Card) → cardsOf deck ≡ pass cards → (versionOf deck ≡ theVersion) × (entryAt (countOf deck) ≤ length deck)
-unfolding cardsOf
-header-means deck cards h =
-    let version-row = test-passed _ 31 _ (test-passed _ 30 _ h .1) in
-    let long-row = test-passed _ 33 _ (test-passed _ 32 _ (version-row .1) .1) in
-    (eqb-true (versionOf deck) theVersion (version-row .0), leb-true (entryAt (countOf deck)) (length deck) (long-row .0))
-
 pub write-back : (deck : List ℕ) (cards : List Card) → Bytes deck → cardsOf deck ≡ pass cards → deckOf cards ≡ deck
 unfolding deckOf
 write-back deck cards b h =
     let n = countOf deck in
-    let header = header-means deck cards h in
+    let o = opened-to deck cards h .0 in
     let from = opened-to deck cards h .1 in
-    let version-stands = number-stands deck 0 4 theVersion b refl (omega arith) (header .0) in
-    let count-stands = number-stands deck 4 (entryAt 0) n b refl (omega arith) refl in
+    let inside = o .inside in
+    let version-stands = number-stands 4 deck 0 4 theVersion b refl (omega arith) (o .version) in
+    let count-stands = number-stands 4 deck 4 (entryAt 0) n b refl (omega arith) refl in
     let all : 0 + n ≡ n = omega arith in
     let entries = rw all at (entries-stand deck n 0 (entryAt n) cards b (omega arith) from) in
     rw (few-cards deck cards h .0, ← bodies-stand deck n 0 (entryAt n) cards from, ← entries, ← count-stands) (sym version-stands)

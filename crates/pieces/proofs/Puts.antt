@@ -90,12 +90,13 @@ in-room : (whole buffer : List ℕ) → length whole ≤ length buffer → hande
 in-room whole buffer h = ap (λ (b : Bool). cond b (whole ++ drop (length whole) buffer) buffer) (le-leb (length whole) (length buffer) h)
 
 -- and is written so from the first byte on
-pub written-is-handed : (whole buffer : List ℕ) → length whole ≤ length buffer → sets buffer 0 whole ≡ handedIn whole buffer
-written-is-handed whole buffer h =
+in-front : (whole buffer : List ℕ) → length whole ≤ length buffer → sets buffer 0 whole ≡ whole ++ drop (length whole) buffer
+in-front whole buffer h =
     let at-front : 0 + length whole ≤ length buffer = omega arith in
-    sets-eq whole buffer 0 at-front
-    ∙ ap (λ (k : ℕ). whole ++ drop k buffer) (zero-add (length whole))
-    ∙ sym (in-room whole buffer h)
+    sets-eq whole buffer 0 at-front ∙ ap (λ (k : ℕ). whole ++ drop k buffer) (zero-add (length whole))
+
+pub written-is-handed : (whole buffer : List ℕ) → length whole ≤ length buffer → sets buffer 0 whole ≡ handedIn whole buffer
+written-is-handed whole buffer h = in-front whole buffer h ∙ sym (in-room whole buffer h)
 
 -- and is found there again, at the front
 pub record InFront (whole after : List ℕ) (end : ℕ) : Type 0 where
@@ -116,6 +117,10 @@ unfolding putIn endIn
 front {before} {after} {whole} {end} p h =
     let all : end ≡ length whole = p .ends ∙ ap (λ (k : ℕ). min k (length before)) (zero-add (length whole)) ∙ min-eq-left h in
     (all, rw (all, p .holds, sets-eq whole before 0 (omega arith)) (take-append-seam whole (drop (0 + length whole) before)))
+
+pub stands : {before after whole : List ℕ} {end : ℕ} → Put before 0 whole after end → length whole ≤ length before → after ≡ whole ++ drop (length whole) before
+unfolding putIn
+stands {before} {whole = whole} p h = p .holds ∙ in-front whole before h
 
 pub handed : {before after whole : List ℕ} {end : ℕ} → Put before 0 whole after end → length whole ≤ length before → (end ≡ length whole) × (after ≡ handedIn whole before)
 unfolding putIn

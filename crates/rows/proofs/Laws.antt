@@ -19,6 +19,12 @@ unfolding onward
 rows-passed (pass x) rest e = (x, refl, e)
 rows-passed (refuse k) rest e = absurd (true≢false cc)
 
+-- a row that goes on without a test refuses where the first one did
+pub row-refused : {A B : Type 0} (m : Checked A) (value : A → B) {k : ℕ} → onward m (λ x. pass (value x)) ≡ refuse k → m ≡ refuse k
+unfolding onward
+row-refused (pass x) value e = absurd (true≢false cc)
+row-refused (refuse n) value e = cc
+
 -- a row of tests that passes, or refuses with a number that has P
 pub data Refuses {A : Type 0} (P : ℕ → Type 0) : Checked A → Type 0 where
   passes : {x : A} → Refuses P (pass x)

@@ -1,3 +1,4 @@
 pub mod Value
 pub mod Written
+pub mod Standing
 pub mod Fixed

@@ -1,3 +1,4 @@
 mod Measuring
 mod Entering
 mod Laying
+pub mod Fixed

@@ -1,48 +1,37 @@
+-- `writer::fill` meets its contract: version, count, entries and bodies stand one behind the other.
+use mathlib.Core.Path.{_≡_, sym, ap}
+use mathlib.Core.List.{List}
+use Prim.Native.Nat.{ℕ}
 use borrow.Author.Needs.{needs}
+use lib.ListN.{length}
+use Rattle.pieces.proofs.Puts.{puts, renamed, wrote, inside}
+use Rattle.rows.specs.Rows.{pass}
+use Rattle.words.specs.Words.{bytesOf}
+use Rattle.card.specs.Fields.{Card}
+use Rattle.contents.proofs.Cards.{come-to-cards}
+use Rattle.layout.specs.Layout.{deckOf}
+use Rattle.layout.specs.Packed.{packedCards}
+use Rattle.layout.proofs.Packed.{as-many, same-fields}
 use Rattle.writer.proofs.fill.Statement.{statement}
 use Rattle.writer.proofs.fill.Tie as tie
-use Rattle.writer.proofs.fill.Reads as reads
-use Rattle.writer.proofs.fill.Lts as lts
-use Rattle.words.proofs.put_half.Reads as put-half-reads
-use Rattle.writer.proofs.bodies.Reads as bodies-reads
-use Rattle.writer.proofs.entries.Reads as entries-reads
 
--- src/lib.rt:73:9
-put-half-requires : tie.Need-put-half-requires
-put-half-requires c κs = search needs
-
--- src/lib.rt:74:50
-cast-put-half : tie.Need-cast-put-half
-cast-put-half c = search needs
-
--- src/lib.rt:74:9
-put-half-requires-2 : tie.Need-put-half-requires-2
-put-half-requires-2 c κs = search needs
-
--- src/lib.rt:75:9
 entries-requires : tie.Need-entries-requires
-entries-requires c κs = ?
+entries-requires c κs = (c .before .before .before .before .before .before .before .before .before .before .before .before .pre .0, inside (wrote (c .before .before .before .put-half2 .ensures)))
 
--- src/lib.rt:76:5
 bodies-requires : tie.Need-bodies-requires
-bodies-requires c κs = ?
+bodies-requires c κs =
+    let from = c .before .before .before .before .before .before .before .before .before .before .before .before .before .before .before .before in
+    let some = come-to-cards (packedCards (from .args .kinds .now) (from .args .fields .now)) (from .pre .1) in
+    (from .pre .1, inside (c .before .before .before .entries .ensures (some .0) (same-fields (from .args .kinds .now) (from .args .fields .now) (some .0) (some .1) .0)))
 
--- src/lib.rt:69:1
-same-length : tie.Need-same-length
-same-length c = search needs
-
--- src/lib.rt:69:1
 returns : tie.Need-returns
-returns c = ?
+unfolding deckOf
+returns c = λ cards e.
+    let from = c .before .before .before .before .before .before .before .before .before .before .before .before .before .before .before .before .before .before .before in
+    let kinds = from .args .kinds .now in
+    let fields = from .args .fields .now in
+    let count-is = ap (bytesOf 4) (sym (as-many kinds fields cards e)) in
+    puts (wrote (c .before .before .before .before .before .before .before .before .before .before .before .before .before .before .put-half .ensures)) (puts (renamed count-is (wrote (c .before .before .before .before .before .before .before .before .before .before .put-half2 .ensures))) (puts (c .before .before .before .before .before .before .entries .ensures cards (same-fields kinds fields cards e .0)) (c .before .before .bodies .ensures cards e)))
 
 pub fill-spec : {M : Type 1} → statement M
-fill-spec =
-    tie.close
-    (tie.spec
-    put-half-requires
-    cast-put-half
-    put-half-requires-2
-    entries-requires
-    bodies-requires
-    same-length
-    returns)
+fill-spec = tie.close (tie.spec (λ c κs. search needs) (λ c. search needs) (λ c κs. search needs) entries-requires bodies-requires (λ c. search needs) returns)

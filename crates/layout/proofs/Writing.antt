@@ -1,0 +1,40 @@
+-- What writing cards into a buffer comes to: a refusal, which leaves the buffer as it was, or the deck at its front.
+use mathlib.Core.Path.{_≡_, refl, sym, ap, _∙_}
+use mathlib.Core.List.{List}
+use Prim.Native.Nat.{ℕ, _≤_, _<_}
+use borrow.Author.Tests.{le-leb, lt-leb}
+use lib.ListN.{length}
+use Rattle.pieces.specs.Pieces.{Put}
+use Rattle.pieces.proofs.Puts.{stands}
+use Rattle.rows.specs.Rows.{Checked, pass, refuse, must, onward}
+use Rattle.card.specs.Fields.{Card}
+use Rattle.contents.specs.Contents.{mostCards}
+use Rattle.layout.specs.Layout.{deckOf}
+use Rattle.layout.specs.Packed.{packedCards, finishedCards}
+use Rattle.layout.specs.Written.{deckFor, lengthFor, withDeck, bufferAfter}
+
+-- more than 256 cards, or as many as may be
+pub too-many : (kinds fields : List ℕ) → mostCards < length kinds → finishedCards kinds fields ≡ refuse 40
+unfolding finishedCards must
+too-many kinds fields h = rw (lt-leb (length kinds) mostCards h) refl
+
+pub few-enough : (kinds fields : List ℕ) → length kinds ≤ mostCards → finishedCards kinds fields ≡ packedCards kinds fields
+unfolding finishedCards must
+few-enough kinds fields h = rw (le-leb (length kinds) mostCards h) refl
+
+-- an answer, and the buffer with it
+abbrev pub Gives : Checked (List Card) → (buffer : List ℕ) → Checked ℕ → (after : List ℕ) → Type 0
+Gives m buffer answer after = (answer ≡ lengthFor m (length buffer)) × (after ≡ bufferAfter m buffer)
+
+pub refused-writes : {m : Checked (List Card)} {k : ℕ} (buffer : List ℕ) → m ≡ refuse k → Gives m buffer (refuse k) buffer
+unfolding lengthFor bufferAfter deckFor onward
+refused-writes buffer e = rw e (refl, refl)
+
+pub no-room-writes : {m : Checked (List Card)} {cards : List Card} (buffer : List ℕ) → m ≡ pass cards → length buffer < length (deckOf cards) → Gives m buffer (refuse 41) buffer
+unfolding lengthFor bufferAfter deckFor onward must
+no-room-writes {cards = cards} buffer e h = rw (e, lt-leb (length (deckOf cards)) (length buffer) h) (refl, refl)
+
+pub deck-writes : {m : Checked (List Card)} {cards : List Card} {buffer after : List ℕ} {end : ℕ} → m ≡ pass cards → length (deckOf cards) ≤ length buffer → Put buffer 0 (deckOf cards) after end
+    → Gives m buffer (pass (length (deckOf cards))) after
+unfolding lengthFor bufferAfter deckFor onward must
+deck-writes {cards = cards} {buffer = buffer} e h p = rw (e, le-leb (length (deckOf cards)) (length buffer) h) (refl, stands p h)
