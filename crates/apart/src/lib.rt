@@ -6,6 +6,10 @@ use card::Kind;
 use card::Named;
 use contents::Contents;
 use contents::Reason;
+ghost use mathlib.Core.Path.{_≡_};
+ghost use lib.ListN.{length};
+ghost use Rattle.layout.specs.Packed.{kindsOf, fieldsOf};
+ghost use Rattle.apart.specs.Apart.{apartOf, sizesOf, withTaken, said};
 
 // How many cards there are and the bytes that their fields take, or why the deck is refused.
 pub enum Apart {
@@ -14,7 +18,11 @@ pub enum Apart {
 }
 
 // Takes a deck apart: the kinds and the fields of its cards, each at the front of its list.
-pub fn take(deck: &[u8], kinds: &mut [u32], fields: &mut [u8]) -> Apart {
+pub fn take(deck: &[u8], kinds: &mut [u32], fields: &mut [u8]) -> Apart
+    ensures { λ r. ⌜ said r ≡ sizesOf (apartOf (now (deck .entry)) (length (now (kinds .entry))) (length (now (fields .entry)))) ⌝ }
+    ensures { λ r. ⌜ now (kinds .exit) ≡ withTaken kindsOf (apartOf (now (deck .entry)) (length (now (kinds .entry))) (length (now (fields .entry)))) (now (kinds .entry)) ⌝ }
+    ensures { λ r. ⌜ now (fields .exit) ≡ withTaken fieldsOf (apartOf (now (deck .entry)) (length (now (kinds .entry))) (length (now (fields .entry)))) (now (fields .entry)) ⌝ }
+{
     match contents::tested(deck) {
         Contents::Refused(why) => Apart::Refused(why),
         Contents::Cards(count) => with_room(deck, count, kinds, fields),
