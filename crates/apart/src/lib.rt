@@ -7,7 +7,14 @@ use card::Named;
 use contents::Contents;
 use contents::Reason;
 ghost use mathlib.Core.Path.{_≡_};
+ghost use mathlib.Core.List.{List};
+ghost use Prim.Native.Nat.{_≤_};
 ghost use lib.ListN.{length};
+ghost use Rattle.rows.specs.Rows.{pass};
+ghost use Rattle.pieces.specs.Pieces.{Put};
+ghost use Rattle.card.specs.Fields.{Card, sizeOf};
+ghost use Rattle.card.specs.Made.{fieldsIn};
+ghost use Rattle.contents.specs.Contents.{countOf, cardsOf, counting};
 ghost use Rattle.layout.specs.Packed.{kindsOf, fieldsOf};
 ghost use Rattle.apart.specs.Apart.{apartOf, sizesOf, withTaken, said};
 
@@ -23,24 +30,36 @@ pub fn take(deck: &[u8], kinds: &mut [u32], fields: &mut [u8]) -> Apart
     ensures { λ r. ⌜ now (kinds .exit) ≡ withTaken kindsOf (apartOf (now (deck .entry)) (length (now (kinds .entry))) (length (now (fields .entry)))) (now (kinds .entry)) ⌝ }
     ensures { λ r. ⌜ now (fields .exit) ≡ withTaken fieldsOf (apartOf (now (deck .entry)) (length (now (kinds .entry))) (length (now (fields .entry)))) (now (fields .entry)) ⌝ }
 {
-    match contents::tested(deck) {
-        Contents::Refused(why) => Apart::Refused(why),
-        Contents::Cards(count) => with_room(deck, count, kinds, fields),
-    }
-}
-
-fn with_room(deck: &[u8], count: u32, kinds: &mut [u32], fields: &mut [u8]) -> Apart {
-    let size = measured(deck, count);
-    if (kinds.len() < count as usize) | (fields.len() < size) {
-        return Apart::Refused(Reason::NoRoom);
-    }
+    let sizes = measured(deck, kinds.len(), fields.len());
+    let Apart::Cards(count, _) = sizes else {
+        return sizes;
+    };
     list_kinds(deck, count, kinds);
     put_all(deck, count, fields);
-    Apart::Cards(count, size)
+    sizes
+}
+
+// The two sizes, or why the deck is refused, with so many places for kinds and so much room for fields.
+fn measured(deck: &[u8], places: usize, room: usize) -> Apart
+    ensures { λ r. ⌜ said r ≡ sizesOf (apartOf (now (deck .entry)) places room) ⌝ }
+{
+    match contents::tested(deck) {
+        Contents::Refused(why) => Apart::Refused(why),
+        Contents::Cards(count) => {
+            let size = summed(deck, count);
+            if (places < count as usize) | (room < size) {
+                return Apart::Refused(Reason::NoRoom);
+            }
+            Apart::Cards(count, size)
+        }
+    }
 }
 
 // The bytes of all fields.
-fn measured(deck: &[u8], count: u32) -> usize {
+fn summed(deck: &[u8], count: u32) -> usize
+    requires { ⌜ counting (countOf (now deck)) (cardsOf (now deck)) ≡ pass count ⌝ }
+    ensures { λ r. ⌜ ((cards : List Card) → cardsOf (now (deck .entry)) ≡ pass cards → r ≡ length (fieldsOf cards)) ⌝ }
+{
     let mut sum = 0;
     let mut i = 0;
     while i < count {
@@ -53,7 +72,11 @@ fn measured(deck: &[u8], count: u32) -> usize {
     sum
 }
 
-fn list_kinds(deck: &[u8], count: u32, kinds: &mut [u32]) {
+// The number of each kind, in the card's place.
+fn list_kinds(deck: &[u8], count: u32, kinds: &mut [u32])
+    requires { ⌜ (counting (countOf (now deck)) (cardsOf (now deck)) ≡ pass count) × (count ≤ length (now kinds)) ⌝ }
+    ensures { λ _. ⌜ ((cards : List Card) → cardsOf (now (deck .entry)) ≡ pass cards → Put (now (kinds .entry)) 0 (kindsOf cards) (now (kinds .exit)) count) ⌝ }
+{
     let mut i = 0;
     while i < count {
         let Named::Kind(kind) = contents::kind_at(deck, i) else {
@@ -64,7 +87,11 @@ fn list_kinds(deck: &[u8], count: u32, kinds: &mut [u32]) {
     }
 }
 
-fn put_all(deck: &[u8], count: u32, fields: &mut [u8]) -> usize {
+// The fields of each card, behind those of the card before.
+fn put_all(deck: &[u8], count: u32, fields: &mut [u8]) -> usize
+    requires { ⌜ counting (countOf (now deck)) (cardsOf (now deck)) ≡ pass count ⌝ }
+    ensures { λ r. ⌜ ((cards : List Card) → cardsOf (now (deck .entry)) ≡ pass cards → Put (now (fields .entry)) 0 (fieldsOf cards) (now (fields .exit)) r) ⌝ }
+{
     let mut at = contents::HEADER + contents::ENTRY * count as usize;
     let mut end = 0;
     let mut i = 0;
@@ -81,7 +108,10 @@ fn put_all(deck: &[u8], count: u32, fields: &mut [u8]) -> usize {
 }
 
 // The fields in a body, without its spares.
-fn put_fields(kind: Kind, body: &[u8], fields: &mut [u8], at: usize) -> usize {
+fn put_fields(kind: Kind, body: &[u8], fields: &mut [u8], at: usize) -> usize
+    requires { ⌜ length (now body) ≡ sizeOf kind ⌝ }
+    ensures { λ r. ⌜ Put (now (fields .entry)) at (fieldsIn kind (now (body .entry))) (now (fields .exit)) r ⌝ }
+{
     let problem = pieces::put(fields, at, &body[..card::PROBLEM]);
     let last = card::X + (kind.packed() - card::PROBLEM);
     pieces::put(fields, problem, &body[card::X..last])

@@ -27,16 +27,22 @@ pub length-body : (k : Kind) (f : List ℕ) → length f ≡ packedSize k → le
 length-body k f h = body-size k (take problemSize f) (drop problemSize f) (given-size k f h) (answer-size k f h)
 
 -- a body has room for problem, spare and answer
-room : (k : Kind) → problemSize + 4 + answerSize k ≤ sizeOf k
+pub answer-inside : (k : Kind) → problemSize + 4 + answerSize k ≤ sizeOf k
 unfolding sizeOf answerSize
-room kind.Solved = omega arith
-room kind.Refused = omega arith
+answer-inside kind.Solved = omega arith
+answer-inside kind.Refused = omega arith
+
+-- and no kind's fields have more than 124 bytes
+pub packed-most : (k : Kind) → packedSize k ≤ 124
+unfolding answerSize
+packed-most kind.Solved = omega arith
+packed-most kind.Refused = omega arith
 
 pub length-fields : (k : Kind) (body : List ℕ) → length body ≡ sizeOf k → length (fieldsIn k body) ≡ packedSize k
 length-fields k body h =
-    let first : length (take problemSize body) ≡ problemSize = length-take-le problemSize body (omega (arith, h, room k)) in
+    let first : length (take problemSize body) ≡ problemSize = length-take-le problemSize body (omega (arith, h, answer-inside k)) in
     let left : length (drop (problemSize + 4) body) ≡ length body - (problemSize + 4) = length-drop (problemSize + 4) body in
-    let second : length (take (answerSize k) (drop (problemSize + 4) body)) ≡ answerSize k = length-take-le (answerSize k) (drop (problemSize + 4) body) (omega (arith, h, left, room k)) in
+    let second : length (take (answerSize k) (drop (problemSize + 4) body)) ≡ answerSize k = length-take-le (answerSize k) (drop (problemSize + 4) body) (omega (arith, h, left, answer-inside k)) in
     length-append (take problemSize body) _ ∙ ap₂ _+_ first second
 
 -- what stands behind the problem's spare begins with the answer

@@ -1,8 +1,8 @@
 -- Laws of cards as kinds and fields without spares: what one more card comes to, refused or a card in front of the rest; that as many cards come
--- out as there are kinds, each with its kind's size; and that kinds and fields of cards give these cards, their spares cleared, and the other way.
+-- out as there are kinds, each with its kind's size; that kinds and fields of one more card stand behind those of the others; and that kinds and fields of cards give these cards, their spares cleared, and the other way.
 use mathlib.Core.Path.{_≡_, refl, sym, ap, ap₂, subst, _∙_}
 use mathlib.Core.Bool.{Bool}
-use mathlib.Core.List.{List, [], _∷_, _++_, map}
+use mathlib.Core.List.{List, [], _∷_, _++_, map, append-nil, append-assoc, map-append}
 use Prim.Native.Nat.{ℕ, suc, _+_, _≤_, _<_}
 use native.Mathlib.Omega.{arith}
 use borrow.Author.Tests.{eqb-true, leb-true, le-leb, lt-leb, ne-eqb}
@@ -18,6 +18,17 @@ use Rattle.card.proofs.Packed.{length-body, length-fields, fields-back}
 use Rattle.layout.specs.Packed.{kindsOf, fieldsOf, packedCard, packedCards, cleared}
 use Rattle.layout.proofs.Sizes.{AllSized}
 use Rattle.layout.proofs.KindNumbers.{kind-of-number, number-of-kind}
+
+-- kinds and fields of one more card stand behind those of the others
+pub kinds-behind : (cards : List Card) (c : Card) → kindsOf (cards ++ (c ∷ [])) ≡ kindsOf cards ++ (kindNumber (c .kind) ∷ [])
+kinds-behind cards c = map-append (λ (c : Card). kindNumber (c .kind)) cards (c ∷ [])
+
+pub fields-behind : (cards : List Card) (c : Card) → fieldsOf (cards ++ (c ∷ [])) ≡ fieldsOf cards ++ fieldsIn (c .kind) (c .body)
+unfolding fieldsOf
+fields-behind [] c = append-nil (fieldsIn (c .kind) (c .body))
+fields-behind (d ∷ cards) c =
+    let here = fieldsIn (d .kind) (d .body) in
+    ap (λ (l : List ℕ). here ++ l) (fields-behind cards c) ∙ sym (append-assoc here (fieldsOf cards) (fieldsIn (c .kind) (c .body)))
 
 module _ (n : ℕ) (kinds fields : List ℕ) where
   -- a card in front of the rest

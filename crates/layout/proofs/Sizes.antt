@@ -1,4 +1,4 @@
--- How many bytes a deck has that is made of cards whose bodies have their kinds' sizes.
+-- How many bytes a deck has that is made of cards whose bodies have their kinds' sizes, and how many their fields without spares have.
 use mathlib.Core.Path.{_≡_, refl, ap, _∙_}
 use mathlib.Core.List.{List, [], _∷_}
 use Prim.Native.Nat.{ℕ, _+_, _*_, _≤_}
@@ -7,9 +7,12 @@ use lib.ListN.{length, length-append}
 use Rattle.words.proofs.Written.{length-bytes}
 use Rattle.card.specs.declared.Kind.{Kind}
 use Rattle.card.specs.Fields.{Card, sizeOf}
+use Rattle.card.specs.Made.{fieldsIn}
 use Rattle.card.proofs.Sizes.{size-most}
+use Rattle.card.proofs.Packed.{length-fields, packed-most}
 use Rattle.contents.specs.Contents.{entrySize, entryAt, mostCards, largestDeck}
 use Rattle.layout.specs.Layout.{entryFor, entriesFrom, bodiesOf, deckOf}
+use Rattle.layout.specs.Packed.{fieldsOf}
 
 -- each body has the size of its kind
 abbrev pub AllSized : List Card → Type 0
@@ -36,3 +39,8 @@ bodies-most (c ∷ cards) w = simp length-append (omega (arith, w .0, size-most 
 
 pub deck-most : (cards : List Card) → length cards ≤ mostCards → AllSized cards → length (deckOf cards) ≤ largestDeck
 deck-most cards h w = omega (arith, length-deck cards, bodies-most cards w)
+
+pub fields-most : (cards : List Card) → AllSized cards → length (fieldsOf cards) ≤ 124 * length cards
+unfolding fieldsOf
+fields-most [] w = omega arith
+fields-most (c ∷ cards) w = omega (arith, length-append (fieldsIn (c .kind) (c .body)) (fieldsOf cards), length-fields (c .kind) (c .body) (w .0), packed-most (c .kind), fields-most cards (w .1))

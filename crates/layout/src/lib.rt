@@ -4,6 +4,11 @@
 // Definitions and laws, and the answer of every function that writes a deck. The crate assumes nothing.
 use contents::Reason;
 
+// The most cards of a deck, and the bytes of their fields where all are solved.
+pub const CARDS: usize = 256;
+
+pub const FIELDS: usize = 31744;
+
 // The length of the deck that was written, or why none was.
 pub enum Written {
     Deck(usize),
