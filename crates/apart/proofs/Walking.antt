@@ -58,13 +58,13 @@ module _ {deck : List ℕ} {count i at : ℕ} {met : List Card} (w : Walking dec
   -- its card is met
   pub walk-on : (kind : Kind) → i < count → kindAt deck i ≡ pass kind → Walking deck count (i + 1) (at + sizeOf kind) (met ++ (cardAt deck kind at ∷ []))
   walk-on kind h e = subst (λ (k : Kind). Walking deck count (i + 1) (at + sizeOf k) (met ++ (cardAt deck k at ∷ []))) (same-kind kind h e) (
-    record {
-      all = w .all;
-      cards-are = w .cards-are;
-      rest = next h .rest;
-      parts = append-assoc met (cardAt deck (next h .kind) at ∷ []) (next h .rest) ∙ ap (λ (l : List Card). met ++ l) (sym (next h .cards-is)) ∙ w .parts;
-      left = next h .others;
-    })
+      record {
+        all = w .all;
+        cards-are = w .cards-are;
+        rest = next h .rest;
+        parts = append-assoc met (cardAt deck (next h .kind) at ∷ []) (next h .rest) ∙ ap (λ (l : List Card). met ++ l) (sym (next h .cards-is)) ∙ w .parts;
+        left = next h .others;
+      })
 
   -- after the last entry all cards were met
   pub all-met : count ≤ i → (cards : List Card) → cardsOf deck ≡ pass cards → met ≡ cards

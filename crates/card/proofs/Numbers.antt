@@ -10,7 +10,7 @@ use lib.Ieee.{Float, nan, binary64, fits}
 use lib.Ieee.Fits.{nan-fits}
 use lib.Ieee.Bits.{ofBits-toBits, toBits-lt}
 use Rattle.exact.specs.Numbers.{numberOf, wordOf}
-use Rattle.words.specs.Words.{valueAt, bytesOf}
+use Rattle.words.specs.Words.{valueAt, bytesOf, wordsBytes}
 use Rattle.words.proofs.Written.{length-bytes, valueAt-back, valueAt-bytes}
 use Rattle.card.specs.Made.{numbersBytes}
 
@@ -24,7 +24,7 @@ each-fits (x ∷ l) w zero = w .0
 each-fits (x ∷ l) w (suc i) = each-fits l (w .1) i
 
 pub length-numbers : (l : List Float) → length (numbersBytes l) ≡ 8 * length l
-unfolding numbersBytes
+unfolding wordsBytes
 length-numbers [] = refl
 length-numbers (x ∷ l) = simp (length-append, length-bytes, length-numbers l) (omega arith)
 
@@ -32,7 +32,7 @@ word-small : (x : Float) → T (fits binary64 x) → wordOf x < 256 ^ 8
 word-small x w = toBits-lt binary64 x w
 
 pub word-at : (l : List Float) (rest : List ℕ) → AllFit l → (i : ℕ) → i < length l → valueAt 8 (numbersBytes l ++ rest) (8 * i) ≡ wordOf (getD l i nan)
-unfolding numbersBytes
+unfolding wordsBytes
 word-at [] rest w i h = absurd (omega arith)
 word-at (x ∷ l) rest w zero h = rw append-assoc (valueAt-bytes 8 (wordOf x) (numbersBytes l ++ rest) (word-small x (w .0)))
 word-at (x ∷ l) rest w (suc i) h =

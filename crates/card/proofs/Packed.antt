@@ -6,10 +6,12 @@ use native.Mathlib.Omega.{arith}
 use lib.ListN.{length, take, drop, length-append, length-take, length-drop, take-append-drop}
 use lib.Seq.{length-take-le, take-all, take-at, drop-at, drop-drop}
 use Rattle.words.proofs.Written.{length-bytes}
+use Rattle.conic.specs.Said as conic
 use Rattle.card.specs.declared.Kind.{Kind}
 use Rattle.card.specs.declared.Kind.the-variants as kind
 use Rattle.card.specs.Fields.{sizeOf, problemSize, answerSize, packedSize}
-use Rattle.card.specs.Made.{spare, bodyOf, fieldsIn, bodyFrom}
+use Rattle.card.specs.Made.{spare, bodyOf, fieldsIn, bodyFrom, solvedNumbers, kindFor, answerFor, cardFor}
+use Rattle.card.proofs.Numbers.{length-numbers}
 
 -- a problem has its bytes, and so has the answer behind it
 given-size : (k : Kind) (f : List ℕ) → length f ≡ packedSize k → length (take problemSize f) ≡ problemSize
@@ -68,3 +70,25 @@ fields-back k f h = fields-of-body k (take problemSize f) (drop problemSize f) (
 -- and problem and answer give the body
 pub body-back : (k : Kind) (given answer : List ℕ) → length given ≡ problemSize → bodyFrom k (given ++ answer) ≡ bodyOf k given answer
 body-back k given answer g = ap₂ (bodyOf k) (take-at given answer problemSize g) (drop-at given answer problemSize g)
+
+-- ---- the card that a problem's bytes and an answer make
+
+answer-length : (said : conic.Said) → length (answerFor said) ≡ answerSize (kindFor said)
+unfolding answerSize
+answer-length (conic.solved x n state) = length-numbers (solvedNumbers x state)
+answer-length (conic.refused k n) = length-bytes 4 k
+answer-length (conic.refusedWithBracket k n lo hi) = length-bytes 4 k
+
+module _ (given : List ℕ) (sized : length given ≡ problemSize) (said : conic.Said) where
+  pub made-size : length (cardFor given said .body) ≡ sizeOf (cardFor given said .kind)
+  made-size = body-size (kindFor said) given (answerFor said) sized (answer-length said)
+
+  -- its fields, and that its spares are 0 already
+  pub made-fields : fieldsIn (cardFor given said .kind) (cardFor given said .body) ≡ given ++ answerFor said
+  made-fields = fields-of-body (kindFor said) given (answerFor said) sized (answer-length said)
+
+  pub made-body : bodyFrom (cardFor given said .kind) (fieldsIn (cardFor given said .kind) (cardFor given said .body)) ≡ cardFor given said .body
+  made-body = ap (bodyFrom (kindFor said)) made-fields ∙ body-back (kindFor said) given (answerFor said) sized
+
+  pub made-begins : take problemSize (cardFor given said .body) ≡ given
+  made-begins = begins (kindFor said) given (answerFor said) sized

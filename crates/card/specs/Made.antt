@@ -1,11 +1,11 @@
 -- A card's body from its fields, and the card that a problem and Kepler's answer make: RULES, The deck and Writing a deck. A problem is given as
 -- the 68 bytes that stand before the spare. Definitions only.
 use Prim.Native.Nat.{ℕ, _+_}
-use mathlib.Core.List.{List, [], _∷_, _++_}
+use mathlib.Core.List.{List, [], _∷_, _++_, map}
 use lib.ListN.{take, drop}
 use lib.Ieee.{Float}
 use Rattle.exact.specs.Numbers.{wordOf}
-use Rattle.words.specs.Words.{bytesOf}
+use Rattle.words.specs.Words.{bytesOf, wordsBytes}
 use Rattle.conic.specs.declared.State.{State}
 use Rattle.conic.specs.declared.Problem.{Problem}
 use Rattle.conic.specs.Said as conic
@@ -14,9 +14,8 @@ use Rattle.card.specs.declared.Kind.the-variants as kind
 use Rattle.card.specs.Fields.{Card, problemSize, answerSize}
 
 -- numbers as words of eight bytes
-unfoldable pub numbersBytes : List Float → List ℕ
-numbersBytes [] = []
-numbersBytes (x ∷ l) = bytesOf 8 (wordOf x) ++ numbersBytes l
+abbrev pub numbersBytes : List Float → List ℕ
+numbersBytes l = wordsBytes (map wordOf l)
 
 -- The deck 4, before the spare
 abbrev pub problemBytes : Problem → List ℕ
@@ -39,8 +38,11 @@ abbrev pub bodyFrom : Kind → (fields : List ℕ) → List ℕ
 bodyFrom kind fields = bodyOf kind (take problemSize fields) (drop problemSize fields)
 
 -- The deck 5: x, position and velocity
+abbrev pub solvedNumbers : Float → State → List Float
+solvedNumbers x state = x ∷ state .r .x ∷ state .r .y ∷ state .r .z ∷ state .v .x ∷ state .v .y ∷ state .v .z ∷ []
+
 abbrev pub solvedAnswer : Float → State → List ℕ
-solvedAnswer x state = numbersBytes (x ∷ state .r .x ∷ state .r .y ∷ state .r .z ∷ state .v .x ∷ state .v .y ∷ state .v .z ∷ [])
+solvedAnswer x state = numbersBytes (solvedNumbers x state)
 
 abbrev pub solvedBody : (given : List ℕ) → Float → State → List ℕ
 solvedBody given x state = bodyOf kind.Solved given (solvedAnswer x state)
@@ -49,7 +51,16 @@ solvedBody given x state = bodyOf kind.Solved given (solvedAnswer x state)
 abbrev pub refusedBody : (given : List ℕ) → ℕ → List ℕ
 refusedBody given k = bodyOf kind.Refused given (bytesOf 4 k)
 
+-- Writing a deck 1: what an answer makes of a problem: the kind of the card, the answer's bytes, and the card
+abbrev pub kindFor : conic.Said → Kind
+kindFor (conic.solved x n state) = kind.Solved
+kindFor (conic.refused k n) = kind.Refused
+kindFor (conic.refusedWithBracket k n lo hi) = kind.Refused
+
+abbrev pub answerFor : conic.Said → List ℕ
+answerFor (conic.solved x n state) = solvedAnswer x state
+answerFor (conic.refused k n) = bytesOf 4 k
+answerFor (conic.refusedWithBracket k n lo hi) = bytesOf 4 k
+
 abbrev pub cardFor : (given : List ℕ) → conic.Said → Card
-cardFor given (conic.solved x n state) = record { kind = kind.Solved; body = solvedBody given x state }
-cardFor given (conic.refused k n) = record { kind = kind.Refused; body = refusedBody given k }
-cardFor given (conic.refusedWithBracket k n lo hi) = record { kind = kind.Refused; body = refusedBody given k }
+cardFor given said = record { kind = kindFor said; body = bodyOf (kindFor said) given (answerFor said) }

@@ -1,5 +1,6 @@
 -- Laws of cards as kinds and fields without spares: what one more card comes to, refused or a card in front of the rest; that as many cards come
--- out as there are kinds, each with its kind's size; that kinds and fields of one more card stand behind those of the others; and that kinds and fields of cards give these cards, their spares cleared, and the other way.
+-- out as there are kinds, each with its kind's size; that kinds and fields of one more card stand behind those of the others; and that kinds and
+-- fields of cards give these cards, their spares cleared, and the other way.
 use mathlib.Core.Path.{_≡_, refl, sym, ap, ap₂, subst, _∙_}
 use mathlib.Core.Bool.{Bool}
 use mathlib.Core.List.{List, [], _∷_, _++_, map, append-nil, append-assoc, map-append}
@@ -119,3 +120,8 @@ packed-back (c ∷ cards) w =
     let inside : s ≤ length (here ++ fieldsOf cards) = rw (length-append here (fieldsOf cards)) (omega (arith, long)) in
     and-card (kindNumber (c .kind)) (kindsOf cards) (here ++ fieldsOf cards) (c .kind) (kind-of-number (c .kind)) inside
     ∙ rw (take-at here (fieldsOf cards) s long, drop-at here (fieldsOf cards) s long, packed-back cards (w .1)) refl
+
+-- as many kinds as cards
+pub kinds-as-many : (cards : List Card) → length (kindsOf cards) ≡ length cards
+kinds-as-many [] = refl
+kinds-as-many (c ∷ cards) = ap suc (kinds-as-many cards)

@@ -1,13 +1,26 @@
 // Problems in, a deck out: Kepler is run on each, and its card is written as solved or refused.
 // docs/RULES.md, Writing a deck.
 //
-// Every function here is proved, the public ones are total, and the crate assumes nothing.
+// Every function here is proved, `write` is total, and the crate assumes nothing.
 use card::Kind;
 use conic::Outcome;
 use conic::Problem;
 use conic::State;
 use contents::Reason;
 use layout::Written;
+ghost use mathlib.Core.Path.{_≡_};
+ghost use mathlib.Core.List.{_++_};
+ghost use Prim.Native.Nat.{_/_, _≤_};
+ghost use lib.ListN.{length};
+ghost use Rattle.pieces.specs.Pieces.{Put};
+ghost use Rattle.words.specs.Words.{wordsBytes};
+ghost use Rattle.conic.specs.Said as conic;
+ghost use Rattle.kepler.specs.Kepler.{keplerOf};
+ghost use Rattle.card.specs.Fields.{problemSize, problemOf};
+ghost use Rattle.card.specs.Made.{solvedAnswer, kindFor, answerFor};
+ghost use Rattle.layout.specs.Packed.{kindsOf, fieldsOf};
+ghost use Rattle.layout.specs.Written.{lengthFor, bufferAfter, said};
+ghost use Rattle.problems.specs.Problems.{wordsIn, cardsFor, problemCards, givenIn};
 
 // A card: the problem and its answer, and beside the problem's numbers the words that were given for
 // them, since a NaN among them may have any payload.
@@ -17,35 +30,38 @@ pub struct Card {
     outcome: Outcome,
 }
 
-// The most cards, and the bytes of their fields where all are solved.
-const CARDS: usize = 256;
-
-const FIELDS: usize = 31744;
-
 // Writes a card for each of these problems, of 68 bytes each, as a deck at the front of the buffer.
-pub fn write(problems: &[u8], buffer: &mut [u8]) -> Written {
+pub fn write(problems: &[u8], buffer: &mut [u8]) -> Written
+    ensures { λ r. ⌜ said r ≡ lengthFor (problemCards (now (problems .entry))) (length (now (buffer .entry))) ⌝ }
+    ensures { λ r. ⌜ now (buffer .exit) ≡ bufferAfter (problemCards (now (problems .entry))) (now (buffer .entry)) ⌝ }
+{
     let count = problems.len() / card::PROBLEM;
-    if CARDS < count {
+    if layout::CARDS < count {
         return Written::Refused(Reason::TooManyGiven);
     }
     if problems.len() % card::PROBLEM != 0 {
         return Written::Refused(Reason::BytesDoNotFit);
     }
-    let mut kinds = [0u32; CARDS];
-    let mut fields = [0u8; FIELDS];
+    let mut kinds = [0u32; layout::CARDS];
+    let mut fields = [0u8; layout::FIELDS];
     let end = answer(problems, &mut kinds, &mut fields);
     writer::write(&kinds[..count], &fields[..end], buffer)
 }
 
 // The kind and the fields of each problem's card.
-fn answer(problems: &[u8], kinds: &mut [u32], fields: &mut [u8]) -> usize {
+fn answer(problems: &[u8], kinds: &mut [u32], fields: &mut [u8]) -> usize
+    requires { ⌜ length (now problems) / problemSize ≤ length (now kinds) ⌝ }
+    ensures { λ r. ⌜ Put (now (kinds .entry)) 0 (kindsOf (cardsFor (length (now (problems .entry)) / problemSize) (now (problems .entry)))) (now (kinds .exit)) (length (now (problems .entry)) / problemSize) ⌝ }
+    ensures { λ r. ⌜ Put (now (fields .entry)) 0 (fieldsOf (cardsFor (length (now (problems .entry)) / problemSize) (now (problems .entry)))) (now (fields .exit)) r ⌝ }
+{
     let mut i = 0;
     let mut at = 0;
     let mut end = 0;
     while card::PROBLEM <= problems.len() - at {
         let next = at + card::PROBLEM;
         let made = answered(&problems[at..next]);
-        kinds[i] = kind_of(made.outcome).number();
+        let outcome = made.outcome;
+        kinds[i] = kind_of(outcome).number();
         end = put_card(made, fields, end);
         at = next;
         i += 1;
@@ -53,25 +69,39 @@ fn answer(problems: &[u8], kinds: &mut [u32], fields: &mut [u8]) -> usize {
     end
 }
 
-fn answered(given: &[u8]) -> Card {
+// The card of one problem.
+fn answered(given: &[u8]) -> Card
+    requires { ⌜ length (now given) ≡ problemSize ⌝ }
+    ensures { λ r. ⌜ givenIn r ≡ now (given .entry) ⌝ }
+    ensures { λ r. ⌜ conic.said (r .outcome) ≡ keplerOf (problemOf (now (given .entry))) ⌝ }
+{
     let problem = card::problem(given);
     Card {
-        given: [
-            words::word(given, 0),
-            words::word(given, 8),
-            words::word(given, 16),
-            words::word(given, 24),
-            words::word(given, 32),
-            words::word(given, 40),
-            words::word(given, 48),
-            words::word(given, 56),
-        ],
+        given: words_of(given),
         problem: problem,
         outcome: kepler::kepler(problem),
     }
 }
 
-fn kind_of(outcome: Outcome) -> Kind {
+// The words of the eight numbers.
+fn words_of(given: &[u8]) -> [u64; 8]
+    ensures { λ r. ⌜ r ≡ wordsIn (now (given .entry)) ⌝ }
+{
+    [
+        words::word(given, 0),
+        words::word(given, 8),
+        words::word(given, 16),
+        words::word(given, 24),
+        words::word(given, 32),
+        words::word(given, 40),
+        words::word(given, 48),
+        words::word(given, 56),
+    ]
+}
+
+fn kind_of(outcome: Outcome) -> Kind
+    ensures { λ r. ⌜ r ≡ kindFor (conic.said outcome) ⌝ }
+{
     match outcome {
         Outcome::Solved {
             x: _,
@@ -83,18 +113,34 @@ fn kind_of(outcome: Outcome) -> Kind {
     }
 }
 
-fn put_card(card: Card, fields: &mut [u8], at: usize) -> usize {
-    let given = card.given;
-    let problem = put_words(fields, at, &given);
-    let end = words::put_half(fields, problem, card.problem.limit);
-    match card.outcome {
-        Outcome::Solved { x, count: _, state } => put_solved(x, state, fields, end),
-        Outcome::Refused(why, _) => words::put_half(fields, end, why.number()),
-        Outcome::RefusedWithBracket(why, _, _, _) => words::put_half(fields, end, why.number()),
+// A card's fields, without spares.
+fn put_card(made: Card, fields: &mut [u8], at: usize) -> usize
+    requires { ⌜ at ≤ length (now fields) ⌝ }
+    ensures { λ r. ⌜ Put (now (fields .entry)) at (givenIn made ++ answerFor (conic.said (made .outcome))) (now (fields .exit)) r ⌝ }
+{
+    let given = made.given;
+    let outcome = made.outcome;
+    let numbers = put_words(fields, at, &given);
+    let end = words::put_half(fields, numbers, made.problem.limit);
+    put_answer(outcome, fields, end)
+}
+
+// x, position and velocity, or the refusal's number.
+fn put_answer(outcome: Outcome, fields: &mut [u8], at: usize) -> usize
+    requires { ⌜ at ≤ length (now fields) ⌝ }
+    ensures { λ r. ⌜ Put (now (fields .entry)) at (answerFor (conic.said outcome)) (now (fields .exit)) r ⌝ }
+{
+    match outcome {
+        Outcome::Solved { x, count: _, state } => put_solved(x, state, fields, at),
+        Outcome::Refused(why, _) => words::put_half(fields, at, why.number()),
+        Outcome::RefusedWithBracket(why, _, _, _) => words::put_half(fields, at, why.number()),
     }
 }
 
-fn put_solved(x: f64, state: State, fields: &mut [u8], at: usize) -> usize {
+fn put_solved(x: f64, state: State, fields: &mut [u8], at: usize) -> usize
+    requires { ⌜ at ≤ length (now fields) ⌝ }
+    ensures { λ r. ⌜ Put (now (fields .entry)) at (solvedAnswer x state) (now (fields .exit)) r ⌝ }
+{
     let answer = [
         exact::word(x),
         exact::word(state.r.x),
@@ -107,7 +153,11 @@ fn put_solved(x: f64, state: State, fields: &mut [u8], at: usize) -> usize {
     put_words(fields, at, &answer)
 }
 
-fn put_words(out: &mut [u8], at: usize, list: &[u64]) -> usize {
+// Words of eight bytes, one behind the other.
+fn put_words(out: &mut [u8], at: usize, list: &[u64]) -> usize
+    requires { ⌜ at ≤ length (now out) ⌝ }
+    ensures { λ r. ⌜ Put (now (out .entry)) at (wordsBytes (now (list .entry))) (now (out .exit)) r ⌝ }
+{
     let mut end = at;
     let mut i = 0;
     while i < list.len() {

@@ -23,19 +23,15 @@ use Rattle.conic.proofs.Fitting.{StateFits, ProblemFits, state-fits}
 use Rattle.kepler.specs.Kepler.{keplerOf}
 use Rattle.kepler.proofs.Laws.{RefusalNumbered, refusal-numbered, IsSolved, solved-means}
 use Rattle.card.specs.declared.Kind.the-variants as kind
-use Rattle.card.specs.Fields.{sizeOf, problemOf, spareOf, xOf, refusalOf, lastSpareOf}
-use Rattle.card.specs.Made.{numbersBytes, problemBytes, spare, solvedBody, refusedBody, cardFor}
+use Rattle.card.specs.Fields.{problemOf, spareOf, xOf, refusalOf, lastSpareOf}
+use Rattle.card.specs.Made.{numbersBytes, problemBytes, spare, solvedNumbers, solvedBody, refusedBody, cardFor}
 use Rattle.card.proofs.Numbers.{AllFit, length-numbers, word-at, number-at}
 use Rattle.verdict.specs.Said.{numberIn}
 use Rattle.verdict.specs.Verdict.{isRefusedWith, asRefused, verdictOn}
 use Rattle.verdict.proofs.StateWords.{stateWords, wordsOf}
 use Rattle.verdict.proofs.Tests.{solved-passes, refused-tests}
 
--- the numbers of a solved answer
-abbrev answer : Float → State → List Float
-answer x state = x ∷ state .r .x ∷ state .r .y ∷ state .r .z ∷ state .v .x ∷ state .v .y ∷ state .v .z ∷ []
-
-answer-fits : (x : Float) (state : State) → T (fits binary64 x) → StateFits state → AllFit (answer x state)
+answer-fits : (x : Float) (state : State) → T (fits binary64 x) → StateFits state → AllFit (solvedNumbers x state)
 answer-fits x state w f = (w, (f .0 .0, (f .0 .1, (f .0 .2, (f .1 .0, (f .1 .1, (f .1 .2, tt)))))))
 
 -- ---- a body: a problem's 68 bytes, the spare, and the rest
@@ -66,23 +62,14 @@ module _ (given : List ℕ) (sized : length given ≡ 68) where
   made-problem (conic.refused k n) = given-problem _
   made-problem (conic.refusedWithBracket k n lo hi) = given-problem _
 
-  refused-size : (k : ℕ) → length (refusedBody given k) ≡ 80
-  refused-size k = simp (length-append, length-bytes, sized)
-
-  pub made-size : (said : conic.Said) → length (cardFor given said .body) ≡ sizeOf (cardFor given said .kind)
-  unfolding sizeOf
-  made-size (conic.solved x n state) = simp (length-append, length-bytes, length-numbers, sized)
-  made-size (conic.refused k n) = refused-size k
-  made-size (conic.refusedWithBracket k n lo hi) = refused-size k
-
   -- ---- a solved one
 
-  module _ (x : Float) (state : State) (w : AllFit (answer x state)) where
-    answer-at : (i : ℕ) → T (ltb i 7) → valueAt 8 (solvedBody given x state) (72 + 8 * i) ≡ wordOf (getD (answer x state) i nan)
+  module _ (x : Float) (state : State) (w : AllFit (solvedNumbers x state)) where
+    answer-at : (i : ℕ) → T (ltb i 7) → valueAt 8 (solvedBody given x state) (72 + 8 * i) ≡ wordOf (getD (solvedNumbers x state) i nan)
     answer-at i h =
-        behind-spare (numbersBytes (answer x state)) 8 (8 * i)
-        ∙ ap (λ (l : List ℕ). valueAt 8 l (8 * i)) (sym (append-nil (numbersBytes (answer x state))))
-        ∙ word-at (answer x state) [] w i (ltb→lt i 7 h)
+        behind-spare (numbersBytes (solvedNumbers x state)) 8 (8 * i)
+        ∙ ap (λ (l : List ℕ). valueAt 8 l (8 * i)) (sym (append-nil (numbersBytes (solvedNumbers x state))))
+        ∙ word-at (solvedNumbers x state) [] w i (ltb→lt i 7 h)
 
     x-read : xOf (solvedBody given x state) ≡ x
     x-read = ap numberOf (answer-at 0 tt) ∙ ofBits-toBits binary64 x (w .0)

@@ -1,7 +1,7 @@
 -- Little-endian numbers in bytes: RULES, The deck. Definitions only.
 use Prim.Native.Nat.{ℕ, zero, suc, _+_, _*_, _/_, _%_}
 use mathlib.Core.Bool.{cond}
-use mathlib.Core.List.{List, [], _∷_}
+use mathlib.Core.List.{List, [], _∷_, _++_}
 use lib.Dec.{leb}
 use lib.ListN.{length, drop}
 
@@ -19,3 +19,8 @@ valueAt k bytes at = cond (leb (at + k) (length bytes)) (value k (drop at bytes)
 unfoldable pub bytesOf : (k n : ℕ) → List ℕ
 bytesOf zero n = []
 bytesOf (suc k) n = n % 256 ∷ bytesOf k (n / 256)
+
+-- words of eight bytes, one behind the other
+unfoldable pub wordsBytes : List ℕ → List ℕ
+wordsBytes [] = []
+wordsBytes (w ∷ words) = bytesOf 8 w ++ wordsBytes words

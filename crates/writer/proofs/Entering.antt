@@ -20,6 +20,7 @@ use Rattle.contents.specs.Contents.{entryAt}
 use Rattle.layout.specs.Layout.{entryFor, entriesFrom}
 use Rattle.layout.specs.Packed.{kindsOf}
 use Rattle.layout.proofs.KindNumbers.{kind-of-number}
+use Rattle.layout.proofs.Packed.{kinds-as-many}
 
 -- of cards with these kinds, those whose entries are still to come
 record Left (cards : List Card) (kinds before : List ℕ) (start : ℕ) (buffer : List ℕ) (offset end i : ℕ) : Type 0 where
@@ -33,11 +34,6 @@ pub record Entering (kinds before : List ℕ) (start : ℕ) (buffer : List ℕ) 
   pub as-long : length buffer ≡ length before
   left : (cards : List Card) → kindsOf cards ≡ kinds → Left cards kinds before start buffer offset end i
 
--- as many kinds as cards
-as-many : (cards : List Card) → length (kindsOf cards) ≡ length cards
-as-many [] = refl
-as-many (c ∷ cards) = ap suc (as-many cards)
-
 pub begin : (kinds buffer : List ℕ) (start : ℕ) → start ≤ length buffer → Entering kinds buffer start buffer (entryAt (length kinds)) start 0
 begin kinds buffer start h = record {
   most = omega arith;
@@ -46,7 +42,7 @@ begin kinds buffer start h = record {
   left = λ cards e. record {
     rest = cards;
     kinds-left = e;
-    to-come = λ after stop p. renamed (ap (λ (n : ℕ). entriesFrom (entryAt n) cards) (sym (ap length e) ∙ as-many cards)) p;
+    to-come = λ after stop p. renamed (ap (λ (n : ℕ). entriesFrom (entryAt n) cards) (sym (ap length e) ∙ kinds-as-many cards)) p;
   };
 }
 
@@ -102,5 +98,5 @@ module _ {kinds before : List ℕ} {start : ℕ} {buffer : List ℕ} {offset end
   unfolding entriesFrom
   entered h cards e =
       let l = s .left cards e in
-      let ended : l .rest ≡ [] = drop-of-length-le (l .rest) {i = 0} (omega (arith, sym (as-many (l .rest)) ∙ ap length (l .kinds-left ∙ drop-of-length-le kinds h))) in
+      let ended : l .rest ≡ [] = drop-of-length-le (l .rest) {i = 0} (omega (arith, sym (kinds-as-many (l .rest)) ∙ ap length (l .kinds-left ∙ drop-of-length-le kinds h))) in
       l .to-come buffer end (renamed (sym (ap (entriesFrom offset) ended)) (none (s .inside)))

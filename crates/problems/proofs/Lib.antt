@@ -1,0 +1,4 @@
+mod Given
+mod Answering
+pub mod Made
+pub mod Fixed
