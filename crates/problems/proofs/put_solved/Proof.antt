@@ -1,67 +1,26 @@
+-- `problems::put_solved` meets its contract: the words are those of the answer's numbers.
+use mathlib.Core.Path.{_≡_, refl, ap}
 use borrow.Author.Needs.{needs}
+use Rattle.pieces.proofs.Puts.{renamed}
+use Rattle.words.specs.Words.{wordsBytes}
 use Rattle.problems.proofs.put_solved.Statement.{statement}
 use Rattle.problems.proofs.put_solved.Tie as tie
-use Rattle.problems.proofs.put_solved.Reads as reads
-use Rattle.problems.proofs.put_solved.Lts as lts
-use Rattle.exact.proofs.word.Reads as word-reads
-use Rattle.problems.proofs.put_words.Reads as put-words-reads
 
--- src/lib.rt:150:9
-word-requires : tie.Need-word-requires
-word-requires c κs = search needs
-
--- src/lib.rt:151:9
-word-requires-2 : tie.Need-word-requires-2
-word-requires-2 c κs = search needs
-
--- src/lib.rt:152:9
-word-requires-3 : tie.Need-word-requires-3
-word-requires-3 c κs = search needs
-
--- src/lib.rt:153:9
-word-requires-4 : tie.Need-word-requires-4
-word-requires-4 c κs = search needs
-
--- src/lib.rt:154:9
-word-requires-5 : tie.Need-word-requires-5
-word-requires-5 c κs = search needs
-
--- src/lib.rt:155:9
-word-requires-6 : tie.Need-word-requires-6
-word-requires-6 c κs = search needs
-
--- src/lib.rt:156:9
-word-requires-7 : tie.Need-word-requires-7
-word-requires-7 c κs = search needs
-
--- src/lib.rt:158:27
-slice-aggregate-put-words : tie.Need-slice-aggregate-put-words
-slice-aggregate-put-words c = search needs
-
--- src/lib.rt:158:5
-put-words-requires : tie.Need-put-words-requires
-put-words-requires c κs = search needs
-
--- src/lib.rt:145:1
-same-length : tie.Need-same-length
-same-length c = search needs
-
--- src/lib.rt:145:1
 returns : tie.Need-returns
-returns c = ?
+returns c = rw (← c .before .before .before .before .before .before .before .before .before .before .before .word .ensures, ← c .before .before .before .before .before .before .before .before .before .before .word2 .ensures, ← c .before .before .before .before .before .before .before .before .before .word3 .ensures, ← c .before .before .before .before .before .before .before .before .word4 .ensures, ← c .before .before .before .before .before .before .before .word5 .ensures, ← c .before .before .before .before .before .before .word6 .ensures, ← c .before .before .before .before .before .word7 .ensures) (c .before .before .put-words .ensures)
 
 pub put-solved-spec : {M : Type 1} → statement M
 put-solved-spec =
     tie.close
     (tie.spec
-    word-requires
-    word-requires-2
-    word-requires-3
-    word-requires-4
-    word-requires-5
-    word-requires-6
-    word-requires-7
-    slice-aggregate-put-words
-    put-words-requires
-    same-length
+    (λ c κs. search needs)
+    (λ c κs. search needs)
+    (λ c κs. search needs)
+    (λ c κs. search needs)
+    (λ c κs. search needs)
+    (λ c κs. search needs)
+    (λ c κs. search needs)
+    (λ c. search needs)
+    (λ c κs. search needs)
+    (λ c. search needs)
     returns)
