@@ -1,12 +1,48 @@
-//! Cards and decks as they are sent.
+//! Cards as they are sent.
 
 use crate::answer::Answer;
-use crate::bytes::words_to_bytes;
+use crate::bytes::{u32_at, u64_at};
 use crate::conic::Words;
-use crate::kepler::{self, Input};
+use crate::kepler::{self, Input, PROBLEM};
 use crate::universal::functions;
 
 pub type State = [u64; 6];
+
+#[derive(Clone, Copy)]
+pub enum Kind {
+    Solved,
+    Refused,
+}
+
+impl Kind {
+    pub fn of(number: u32) -> Option<Kind> {
+        [Kind::Solved, Kind::Refused]
+            .into_iter()
+            .find(|kind| kind.number() == number)
+    }
+
+    pub fn number(self) -> u32 {
+        match self {
+            Kind::Solved => 1,
+            Kind::Refused => 2,
+        }
+    }
+
+    /// The bytes of a body.
+    pub fn length(self) -> usize {
+        match self {
+            Kind::Solved => 128,
+            Kind::Refused => 80,
+        }
+    }
+
+    pub fn word(self) -> &'static str {
+        match self {
+            Kind::Solved => "solved",
+            Kind::Refused => "refused",
+        }
+    }
+}
 
 #[derive(Clone, Copy)]
 pub struct Card {
@@ -67,16 +103,35 @@ impl Card {
         Card::solved(problem, word(x), state)
     }
 
-    fn kind(&self) -> u32 {
-        match self.claim {
-            Claim::Solved { .. } => 1,
-            Claim::Refused { .. } => 2,
+    /// The card with this body, which has its kind's length.
+    pub fn read(kind: Kind, body: &[u8]) -> Card {
+        let claim = match kind {
+            Kind::Solved => Claim::Solved {
+                x: u64_at(body, 72),
+                state: std::array::from_fn(|i| u64_at(body, 80 + 8 * i)),
+            },
+            Kind::Refused => Claim::Refused {
+                number: u32_at(body, 72),
+                spare: u32_at(body, 76),
+            },
+        };
+        Card {
+            problem: Input::read(body),
+            spare: u32_at(body, PROBLEM),
+            claim,
         }
     }
 
-    fn body(&self) -> Vec<u8> {
-        let mut body = words_to_bytes(&self.problem.words).to_vec();
-        body.extend(u32s(&[self.problem.limit, self.spare]));
+    pub fn kind(&self) -> Kind {
+        match self.claim {
+            Claim::Solved { .. } => Kind::Solved,
+            Claim::Refused { .. } => Kind::Refused,
+        }
+    }
+
+    pub fn body(&self) -> Vec<u8> {
+        let mut body = self.problem.bytes().to_vec();
+        body.extend(u32s(&[self.spare]));
         match self.claim {
             Claim::Solved { x, state } => {
                 body.extend(x.to_le_bytes());
@@ -85,6 +140,23 @@ impl Card {
             Claim::Refused { number, spare } => body.extend(u32s(&[number, spare])),
         }
         body
+    }
+
+    /// Whether a spare of the card is not 0.
+    pub fn has_spare(&self) -> bool {
+        let last = match self.claim {
+            Claim::Solved { .. } => 0,
+            Claim::Refused { spare, .. } => spare,
+        };
+        self.spare != 0 || last != 0
+    }
+
+    /// The card with each spare 0.
+    pub fn anew(&self) -> Card {
+        match self.claim {
+            Claim::Solved { x, state } => Card::solved(self.problem, x, state),
+            Claim::Refused { number, .. } => Card::refused(self.problem, number),
+        }
     }
 }
 
@@ -101,18 +173,6 @@ fn own_state(words: &Words) -> State {
     std::array::from_fn(|i| words[1 + i])
 }
 
-/// The cards as one deck.
-pub fn deck(cards: &[Card]) -> Vec<u8> {
-    let mut front = vec![1, cards.len() as u32];
-    let mut bodies = Vec::new();
-    for card in cards {
-        let (body, offset) = (card.body(), 8 + 12 * cards.len() + bodies.len());
-        front.extend([card.kind(), offset as u32, body.len() as u32]);
-        bodies.extend(body);
-    }
-    [u32s(&front), bodies].concat()
-}
-
-fn u32s(numbers: &[u32]) -> Vec<u8> {
+pub fn u32s(numbers: &[u32]) -> Vec<u8> {
     numbers.iter().flat_map(|n| n.to_le_bytes()).collect()
 }

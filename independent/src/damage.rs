@@ -2,10 +2,9 @@
 
 use crate::bytes::u32_at;
 use crate::chance::Chance;
+use crate::deck::{ENTRIES, ENTRY};
 
-/// Where the entries begin, the bytes of one, and where its kind, offset and length stand in it.
-const ENTRIES: usize = 8;
-const ENTRY: usize = 12;
+/// Where the kind, the offset and the length stand in an entry.
 const KIND: usize = 0;
 const OFFSET: usize = 4;
 const LENGTH: usize = 8;

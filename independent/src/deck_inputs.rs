@@ -1,6 +1,6 @@
 //! The decks that the check program is tried on.
 
-use crate::cards::{deck, Card};
+use crate::cards::Card;
 use crate::chance::Chance;
 use crate::conic::Vector;
 use crate::damage;
@@ -10,6 +10,7 @@ use crate::motion::PLAIN;
 use crate::refused_cards as refused;
 use crate::solved_cards::{self as solved, Sort};
 use crate::ties;
+use crate::writer::deck;
 
 pub struct Deck {
     /// What it is tried for.

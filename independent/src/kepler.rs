@@ -1,14 +1,31 @@
 //! Kepler by the rules: the tests before the first guess, and RULES, The search.
 
 use crate::answer::{refuse, Answer};
+use crate::bytes::{joined, u32_at, words_from_bytes, words_to_bytes};
 use crate::conic::{inner_root, Orbit, Problem, Words};
 use crate::universal::{functions, Functions};
 
-/// A problem is 68 bytes: the words, then the limit.
+/// The bytes of a problem: the words, then the limit.
+pub const PROBLEM: usize = 68;
+
 #[derive(Clone, Copy)]
 pub struct Input {
     pub words: Words,
     pub limit: u32,
+}
+
+impl Input {
+    /// The problem that these bytes begin with.
+    pub fn read(bytes: &[u8]) -> Input {
+        Input {
+            words: words_from_bytes(bytes),
+            limit: u32_at(bytes, 64),
+        }
+    }
+
+    pub fn bytes(&self) -> [u8; PROBLEM] {
+        joined(&words_to_bytes(&self.words), &self.limit.to_le_bytes())
+    }
 }
 
 /// What is searched for, and the bracket.

@@ -25,8 +25,9 @@ mod theta;
 mod theta_inputs;
 mod ties;
 mod universal;
+mod writer;
 
-use bytes::{joined, u32_at, words_from_bytes, words_to_bytes};
+use bytes::{words_from_bytes, words_to_bytes};
 use conic::Words;
 use std::io::{self, BufWriter, Write};
 use std::process::ExitCode;
@@ -48,17 +49,11 @@ const ROOTS: Suite<u64, 8> = Suite {
     line: |bytes| root::root(u64::from_le_bytes(bytes)).to_string(),
 };
 
-const PREDICT: Suite<kepler::Input, 68> = Suite {
+const PREDICT: Suite<kepler::Input, { kepler::PROBLEM }> = Suite {
     fixed: kepler_inputs::fixed,
     mixed: kepler_inputs::mixed,
-    bytes: |input| joined(&words_to_bytes(&input.words), &input.limit.to_le_bytes()),
-    line: |bytes| {
-        let input = kepler::Input {
-            words: words_from_bytes(&bytes),
-            limit: u32_at(&bytes, 64),
-        };
-        kepler::answer(&input).to_string()
-    },
+    bytes: kepler::Input::bytes,
+    line: |bytes| kepler::answer(&kepler::Input::read(&bytes)).to_string(),
 };
 
 const TURN: Suite<Words, 64> = Suite {

@@ -1,7 +1,7 @@
 //! Solved cards about the last |T - t| that is near enough: exactly 2^-36 + 2^-89, since up to
 //! there binary64 rounds the difference down to 2^-36. What is exact is said over whole numbers.
 
-use crate::cards::{self, Card, Claim};
+use crate::cards::{Card, Claim};
 use crate::chance::{power_of_two, Chance};
 use crate::deck;
 use crate::kepler::{self, NEAR};
@@ -10,6 +10,7 @@ use crate::motion::{self, beside};
 use crate::root::parts;
 use crate::solved_cards::sent;
 use crate::universal::functions;
+use crate::writer;
 
 /// The whole numbers are multiples of 2^-160.
 const UNIT: i32 = -160;
@@ -60,7 +61,7 @@ pub fn rounded_down(card: &Card) -> bool {
 }
 
 fn accepted(card: &Card) -> bool {
-    deck::listing(&cards::deck(&[*card])).starts_with("card 1 solved 0\n")
+    deck::listing(&writer::deck(&[*card])).starts_with("card 1 solved 0\n")
 }
 
 /// |T - t|, both being on the same side of 0.
