@@ -71,6 +71,11 @@ fn others(value: u32) -> Vec<u32> {
     [&moved[..], &bits, &plain].concat()
 }
 
+/// Each damage alone.
+pub fn each(deck: &[u8]) -> Vec<Vec<u8>> {
+    DAMAGES.map(|damage| changed(deck, damage)).to_vec()
+}
+
 /// Two damages at once, in either order.
 pub fn pairs(deck: &[u8]) -> Vec<Vec<u8>> {
     let second = |first: Damage| DAMAGES.map(|second| [first, second]);

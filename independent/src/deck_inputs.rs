@@ -4,6 +4,7 @@ use crate::cards::Card;
 use crate::chance::Chance;
 use crate::conic::Vector;
 use crate::damage;
+use crate::file_suite::{named, Named};
 use crate::kepler::{self, Input};
 use crate::kepler_inputs;
 use crate::motion::PLAIN;
@@ -12,15 +13,9 @@ use crate::solved_cards::{self as solved, Sort};
 use crate::ties;
 use crate::writer::deck;
 
-pub struct Deck {
-    /// What it is tried for.
-    pub name: &'static str,
-    pub bytes: Vec<u8>,
-}
-
 /// The sorts of cards, how many rounds of each the gate's decks have, and how many cards at most
 /// stand in one of these.
-const SORTS: [(&str, usize, u64, Sort); 19] = [
+pub const SORTS: [(&str, usize, u64, Sort); 19] = [
     ("own", 200, 16, own),
     ("moved", 60, 16, solved::moved),
     ("other-ways", 200, 16, solved::other_ways),
@@ -43,9 +38,9 @@ const SORTS: [(&str, usize, u64, Sort); 19] = [
 ];
 
 /// The gate's decks, the same list in every run.
-pub fn fixed() -> Vec<Deck> {
+pub fn fixed() -> Vec<Named> {
     let chance = &mut Chance::at(4, 0);
-    let mut list = named("trial", [deck_a(), Vec::new(), deck(&[])]);
+    let mut list = trials();
     list.extend(of_kepler(chance));
     for (name, rounds, most, sort) in SORTS {
         let cards: Vec<Card> = (0..rounds).flat_map(|_| sort(chance)).collect();
@@ -59,7 +54,7 @@ pub fn fixed() -> Vec<Deck> {
 }
 
 /// One deck of some kind. Most of them are not damaged.
-pub fn mixed(chance: &mut Chance) -> Deck {
+pub fn mixed(chance: &mut Chance) -> Named {
     let most = chance.one_of(&[1, 4, 16, 16, 64, 256]);
     let count = chance.below(most + 1) as usize;
     let mut cards = Vec::new();
@@ -70,7 +65,7 @@ pub fn mixed(chance: &mut Chance) -> Deck {
     if chance.below(4) == 0 {
         bytes = damage::by_chance(bytes, chance);
     }
-    Deck {
+    Named {
         name: "mixed",
         bytes,
     }
@@ -91,8 +86,17 @@ fn own(chance: &mut Chance) -> Vec<Card> {
     vec![Card::own(kepler_inputs::mixed(chance))]
 }
 
-/// The rules' deck A.
-fn deck_a() -> Vec<u8> {
+/// The rules' trials: deck A, a deck of no bytes and one of 8.
+pub fn trials() -> Vec<Named> {
+    named("trial", [deck_a(), Vec::new(), deck(&[])])
+}
+
+pub fn deck_a() -> Vec<u8> {
+    deck(&cards_of_a())
+}
+
+/// The cards of the rules' deck A: solved, refused, solved.
+pub fn cards_of_a() -> [Card; 3] {
     let problem = |v: Vector| Input {
         words: PLAIN.words(v, 0.0),
         limit: 20,
@@ -102,16 +106,13 @@ fn deck_a() -> Vec<u8> {
         Card::solved(problem([0.0, 1.0, 0.0]), 0, state)
     };
     let straight = Card::refused(problem([1.0, 0.0, 0.0]), 7);
-    deck(&[round(1.0), straight, round(2.0)])
+    [round(1.0), straight, round(2.0)]
 }
 
 /// Kepler's own inputs, mixed up: with its own answers in decks of each number of cards; those that
 /// it refuses as solved cards; those that it solves as refused ones.
-fn of_kepler(chance: &mut Chance) -> Vec<Deck> {
-    let mut problems = kepler_inputs::fixed();
-    for i in (1..problems.len()).rev() {
-        problems.swap(i, chance.below(i as u64 + 1) as usize);
-    }
+fn of_kepler(chance: &mut Chance) -> Vec<Named> {
+    let problems = kepler_inputs::shuffled(chance);
     let mut own = problems.iter().map(|problem| Card::own(*problem)).cycle();
     let counts = (0..=256).map(|count| deck(&own.by_ref().take(count).collect::<Vec<Card>>()));
     let mut list = named("every-count", counts);
@@ -128,7 +129,7 @@ fn of_kepler(chance: &mut Chance) -> Vec<Deck> {
 }
 
 /// The cards, in their order, in decks of 1 to `most`.
-fn dealt(mut cards: &[Card], most: u64, chance: &mut Chance) -> Vec<Vec<u8>> {
+pub fn dealt(mut cards: &[Card], most: u64, chance: &mut Chance) -> Vec<Vec<u8>> {
     let mut decks = Vec::new();
     while !cards.is_empty() {
         let count = (1 + chance.below(most) as usize).min(cards.len());
@@ -151,7 +152,7 @@ fn rounded_down(chance: &mut Chance) -> Vec<Vec<u8>> {
     dealt(&cards, 16, chance)
 }
 
-fn damaged() -> Vec<Deck> {
+fn damaged() -> Vec<Named> {
     let (a, empty) = (deck_a(), deck(&[]));
     let trailing = (1..=40).map(|more| damage::lengthened(&a, a.len() + more, more as u8 & 1));
     let short = (0..8).flat_map(|length| [0, 255].map(|byte| vec![byte; length]));
@@ -173,7 +174,7 @@ fn damaged() -> Vec<Deck> {
 }
 
 /// The largest deck, and inputs about and beyond the most that is read.
-fn long(chance: &mut Chance) -> Vec<Deck> {
+fn long(chance: &mut Chance) -> Vec<Named> {
     let solved = (0..256).map(|_| solved::solved(chance));
     let largest = deck(&solved.collect::<Vec<Card>>());
     let mut list = named("largest", [largest.clone()]);
@@ -183,9 +184,4 @@ fn long(chance: &mut Chance) -> Vec<Deck> {
         list.extend(named("long", [0, 255].into_iter().flat_map(filled)));
     }
     list
-}
-
-fn named(name: &'static str, decks: impl IntoIterator<Item = Vec<u8>>) -> Vec<Deck> {
-    let deck = |bytes| Deck { name, bytes };
-    decks.into_iter().map(deck).collect()
 }

@@ -36,6 +36,15 @@ pub fn fixed() -> Vec<Input> {
     list
 }
 
+/// The gate's inputs in another order, in which the kinds are mixed up.
+pub fn shuffled(chance: &mut Chance) -> Vec<Input> {
+    let mut list = fixed();
+    for i in (1..list.len()).rev() {
+        list.swap(i, chance.below(i as u64 + 1) as usize);
+    }
+    list
+}
+
 /// One problem of some kind. Most of them can be solved.
 pub fn mixed(chance: &mut Chance) -> Input {
     let words = match chance.below(16) {
@@ -63,7 +72,7 @@ pub fn unhurried(words: Words) -> Input {
 }
 
 /// Kepler's trials in the rules, in their order.
-fn trials() -> Vec<Input> {
+pub fn trials() -> Vec<Input> {
     let plain = |v: Vector, dt: f64, limit: u32| Input {
         words: PLAIN.words(v, dt),
         limit,

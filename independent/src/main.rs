@@ -6,15 +6,18 @@ mod bytes;
 mod cards;
 mod chance;
 mod conic;
+mod copy_inputs;
 mod damage;
 mod deck;
 mod deck_inputs;
-mod deck_suite;
 mod edges;
+mod file_suite;
 mod kepler;
 mod kepler_edges;
 mod kepler_inputs;
+mod kinds;
 mod motion;
+mod problem_inputs;
 mod reading;
 mod refused_cards;
 mod root;
@@ -29,6 +32,7 @@ mod writer;
 
 use bytes::{words_from_bytes, words_to_bytes};
 use conic::Words;
+use file_suite::FileSuite;
 use std::io::{self, BufWriter, Write};
 use std::process::ExitCode;
 use suite::Suite;
@@ -37,10 +41,12 @@ const USAGE: &str = "\
 usage: independent NAME inputs                    the gate's inputs, in little-endian bytes
        independent NAME answers                   reads inputs, writes one line for each
        independent NAME random SEED COUNT [FROM]  COUNT inputs made from SEED, from place FROM on
-NAME is a proved program's: roots, predict or turn. For decks, each a file NAME.deck:
-       independent check_deck inputs INTO         the gate's decks, into the folder INTO
-       independent check_deck answers DECKS INTO  for each deck of a folder a file NAME.listing
-       independent check_deck random SEED COUNT [FROM] INTO";
+NAME is a proved program's: roots, predict or turn. Each input of check_deck and copy_deck is a file,
+PLACE.deck, and so is each of write_deck, PLACE.problems; NAME is one of these three:
+       independent NAME inputs INTO               the gate's inputs, into the folder INTO
+       independent NAME answers INPUTS INTO       for each input of a folder a file PLACE.answer
+       independent NAME random SEED COUNT [FROM] INTO
+       independent NAME kinds INPUTS ANSWERS      a line for each kind of each answer";
 
 const ROOTS: Suite<u64, 8> = Suite {
     fixed: root_inputs::fixed,
@@ -63,6 +69,30 @@ const TURN: Suite<Words, 64> = Suite {
     line: |bytes| theta::answer(&words_from_bytes(&bytes)).to_string(),
 };
 
+const CHECK_DECK: FileSuite = FileSuite {
+    ending: "deck",
+    fixed: deck_inputs::fixed,
+    mixed: deck_inputs::mixed,
+    answer: |input| deck::listing(input).into_bytes(),
+    kinds: kinds::listed,
+};
+
+const WRITE_DECK: FileSuite = FileSuite {
+    ending: "problems",
+    fixed: problem_inputs::fixed,
+    mixed: problem_inputs::mixed,
+    answer: writer::written,
+    kinds: kinds::written,
+};
+
+const COPY_DECK: FileSuite = FileSuite {
+    ending: "deck",
+    fixed: copy_inputs::fixed,
+    mixed: deck_inputs::mixed,
+    answer: writer::copied,
+    kinds: kinds::copied,
+};
+
 fn main() -> ExitCode {
     let given: Vec<String> = std::env::args_os()
         .skip(1)
@@ -74,7 +104,9 @@ fn main() -> ExitCode {
         ["roots", ref command @ ..] => ROOTS.run(&mut out, command),
         ["predict", ref command @ ..] => PREDICT.run(&mut out, command),
         ["turn", ref command @ ..] => TURN.run(&mut out, command),
-        ["check_deck", ref command @ ..] => deck_suite::run(command),
+        ["check_deck", ref command @ ..] => CHECK_DECK.run(&mut out, command),
+        ["write_deck", ref command @ ..] => WRITE_DECK.run(&mut out, command),
+        ["copy_deck", ref command @ ..] => COPY_DECK.run(&mut out, command),
         _ => None,
     };
     let Some(done) = done else {

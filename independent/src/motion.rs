@@ -246,6 +246,21 @@ pub fn each_not_finite(words: Words) -> Vec<Words> {
         .collect()
 }
 
+/// The problem with one word after the other made a NaN with a payload, or now and then an infinity.
+pub fn each_with_payload(words: Words, chance: &mut Chance) -> Vec<Words> {
+    (0..words.len())
+        .map(|place| with(words, place, chance.word() | 0x7ff << 52))
+        .collect()
+}
+
+/// The problem with one word after the other made each of the edges, of either sign.
+pub fn each_edge(words: Words) -> Vec<Words> {
+    let signed = EDGES.into_iter().flat_map(|word| [word, word | 1 << 63]);
+    (0..words.len())
+        .flat_map(|place| signed.clone().map(move |word| with(words, place, word)))
+        .collect()
+}
+
 /// The problem with one word made an edge, its exponent changed, or any word at all.
 pub fn one_changed(words: Words, chance: &mut Chance) -> Words {
     let place = chance.below(8) as usize;

@@ -4,11 +4,11 @@ use crate::cards::{Card, Claim};
 use crate::chance::Chance;
 use crate::kepler::{self, Input};
 use crate::kepler_inputs::{self, LIMITS};
-use crate::motion::{self, with};
+use crate::motion;
 use crate::solved_cards::Base;
 
 /// The answers that a problem of Kepler can have: a refusal's number, or solved.
-const ANSWERS: [Option<u32>; 11] = [
+pub const ANSWERS: [Option<u32>; 11] = [
     None,
     Some(1),
     Some(2),
@@ -23,7 +23,7 @@ const ANSWERS: [Option<u32>; 11] = [
 ];
 
 /// A problem with this answer.
-fn problem_with(answer: Option<u32>, chance: &mut Chance) -> Input {
+pub fn problem_with(answer: Option<u32>, chance: &mut Chance) -> Input {
     std::iter::repeat_with(|| kepler_inputs::mixed(chance))
         .find(|problem| kepler::answer(problem).refusal() == answer)
         .expect("the mixture has each answer")
@@ -68,8 +68,7 @@ pub fn denied(problem: Input, chance: &mut Chance) -> Card {
 pub fn not_finite(chance: &mut Chance) -> Vec<Card> {
     let problem = problem_with(None, chance);
     let mut spoilt = motion::each_not_finite(problem.words);
-    let payload = |place| with(problem.words, place, chance.word() | 0x7ff << 52);
-    spoilt.extend((0..8).map(payload));
+    spoilt.extend(motion::each_with_payload(problem.words, chance));
     spoilt
         .into_iter()
         .map(|words| Input { words, ..problem })
@@ -105,7 +104,7 @@ pub fn spares(chance: &mut Chance) -> Vec<Card> {
 }
 
 /// The card with its problem's spare, and with the one after its number if it has that.
-fn with_spares(card: Card, bits: u32) -> Vec<Card> {
+pub fn with_spares(card: Card, bits: u32) -> Vec<Card> {
     let mut cards = vec![Card {
         spare: bits,
         ..card

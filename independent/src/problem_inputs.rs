@@ -1,0 +1,162 @@
+//! The problems that the writer is tried on: 0 to 258 in a file, and files that end inside one.
+
+use crate::chance::Chance;
+use crate::file_suite::{named, Named};
+use crate::kepler::{self, Input, PROBLEM};
+use crate::kepler_inputs::{self, LIMITS};
+use crate::motion::{self, SPAN};
+use crate::refused_cards::{problem_with, ANSWERS};
+
+/// How many bytes of a problem are there where it is cut: by the numbers' ends, and in the limit.
+const CUTS: [usize; 10] = [1, 7, 8, 9, 33, 63, 64, 65, 66, 67];
+
+/// The gate's inputs, the same list in every run.
+pub fn fixed() -> Vec<Named> {
+    let chance = &mut Chance::at(5, 0);
+    let problems = kepler_inputs::shuffled(chance);
+    let mut list = trials();
+    list.extend(counts(&problems));
+    list.extend(alike(&problems));
+    list.extend(not_finite(chance));
+    list.extend(edges(chance));
+    list.extend(limits(chance));
+    list.extend(cut(&problems));
+    list.extend(long(&problems));
+    list.extend((0..150).map(|_| mixed(chance)));
+    list
+}
+
+/// One file of some kind. Most of them have whole problems alone, and not too many.
+pub fn mixed(chance: &mut Chance) -> Named {
+    let most = chance.one_of(&[1, 4, 16, 16, 20, 64, 260]);
+    let count = chance.below(most + 1);
+    let problems: Vec<Input> = (0..count).map(|_| kepler_inputs::mixed(chance)).collect();
+    let mut bytes = joined(&problems);
+    if chance.below(8) == 0 {
+        let more = 1 + chance.below(PROBLEM as u64 - 1);
+        bytes.extend((0..more).map(|_| chance.word() as u8));
+    }
+    Named {
+        name: "mixed",
+        bytes,
+    }
+}
+
+/// Kepler's trials, each alone and all in one file.
+fn trials() -> Vec<Named> {
+    let trials = kepler_inputs::trials();
+    named("trial", trials.chunks(1).chain([&trials[..]]).map(joined))
+}
+
+/// Each number of problems up to 20, those about 256, and some between.
+fn counts(problems: &[Input]) -> Vec<Named> {
+    let few = (0..=20).chain((0..4).cycle().take(12));
+    let many = [64, 128, 192, 254, 257, 258, 300].into_iter();
+    let about_most = [255, 256].into_iter().cycle().take(6);
+    let mut rest = problems.iter().copied().cycle();
+    let counts = few.chain(many).chain(about_most);
+    let taken = counts.map(|count| joined(&rest.by_ref().take(count).collect::<Vec<Input>>()));
+    named("count", taken)
+}
+
+/// Problems with one answer, forwards and backwards, alone and together; and as many as a deck may
+/// have of those that are solved, of those that are not, and of both in turn.
+fn alike(problems: &[Input]) -> Vec<Named> {
+    let answered: Vec<(Option<u32>, Input)> = problems
+        .iter()
+        .map(|problem| (kepler::answer(problem).refusal(), *problem))
+        .collect();
+    let of = |wanted: &dyn Fn(Option<u32>, &Input) -> bool, most: usize| -> Vec<Input> {
+        let found = answered
+            .iter()
+            .filter(|(answer, input)| wanted(*answer, input));
+        found.map(|(_, input)| *input).take(most).collect()
+    };
+    let mut list = Vec::new();
+    for answer in ANSWERS {
+        for back in [false, true] {
+            let found = of(
+                &|given, input| given == answer && backwards(input) == back,
+                16,
+            );
+            assert!(found.len() == 16, "too few problems with one answer");
+            list.extend(named("alone", found[..4].chunks(1).map(joined)));
+            list.extend(named("together", [joined(&found[4..])]));
+        }
+    }
+    let solved = of(&|answer, _| answer.is_none(), 256);
+    let refused = of(&|answer, _| answer.is_some(), 256);
+    let turns = solved.iter().zip(&refused).flat_map(|(a, b)| [*a, *b]);
+    let turns: Vec<Input> = turns.take(256).collect();
+    list.extend(named(
+        "all",
+        [solved, refused, turns].map(|all| joined(&all)),
+    ));
+    list
+}
+
+fn backwards(input: &Input) -> bool {
+    input.words[SPAN] >> 63 == 1
+}
+
+/// Each number no finite number, one problem in a file; and with payloads by chance, one number of
+/// each problem or all.
+fn not_finite(chance: &mut Chance) -> Vec<Named> {
+    let problem = problem_with(None, chance);
+    let input = |words| Input { words, ..problem };
+    let each = motion::each_not_finite(problem.words).into_iter();
+    let mut list = named("not-finite", each.map(|words| joined(&[input(words)])));
+    for _ in 0..8 {
+        let one = motion::each_with_payload(problem.words, chance);
+        let all = one
+            .iter()
+            .map(|_| [(); 8].map(|()| chance.word() | 0x7ff << 52));
+        for words in [one.clone(), all.collect()] {
+            let inputs: Vec<Input> = words.into_iter().map(input).collect();
+            list.extend(named("payload", [joined(&inputs)]));
+        }
+    }
+    list
+}
+
+/// Each number -0, subnormal, or another edge of binary64.
+fn edges(chance: &mut Chance) -> Vec<Named> {
+    let problem = problem_with(None, chance);
+    let input = |words| Input { words, ..problem };
+    let inputs: Vec<Input> = motion::each_edge(problem.words)
+        .into_iter()
+        .map(input)
+        .collect();
+    named("edge", inputs.chunks(8).map(joined))
+}
+
+/// Each limit, alone and together.
+fn limits(chance: &mut Chance) -> Vec<Named> {
+    let problem = problem_with(None, chance);
+    let inputs = LIMITS.map(|limit| Input { limit, ..problem });
+    named("limit", inputs.chunks(1).chain([&inputs[..]]).map(joined))
+}
+
+/// Files that end inside a problem, behind none at each byte.
+fn cut(problems: &[Input]) -> Vec<Named> {
+    let row = joined(&problems[..258]);
+    let behind_none = (1..PROBLEM).map(|more| (0, more));
+    let behind = [1, 2, 255, 256, 257].into_iter();
+    let places = behind_none.chain(behind.flat_map(|count| CUTS.map(|more| (count, more))));
+    named(
+        "cut",
+        places.map(|(count, more)| row[..PROBLEM * count + more].to_vec()),
+    )
+}
+
+/// Lengths about and beyond the most that is read.
+fn long(problems: &[Input]) -> Vec<Named> {
+    let row = joined(&problems[..1100]);
+    let lengths = [17_475, 17_476, 17_477, 17_544, 20_000, 70_000];
+    named("long", lengths.map(|length| row[..length].to_vec()))
+}
+
+/// Problems as they are sent, one behind the other.
+fn joined(problems: &[Input]) -> Vec<u8> {
+    problems.iter().flat_map(Input::bytes).collect()
+}
