@@ -1,6 +1,7 @@
 //! The problems that the writer is tried on: 0 to 258 in a file, and files that end inside one.
 
 use crate::chance::Chance;
+use crate::deck::MOST_CARDS;
 use crate::file_suite::{named, Named};
 use crate::kepler::{self, Input, PROBLEM};
 use crate::kepler_inputs::{self, LIMITS};
@@ -17,6 +18,7 @@ pub fn fixed() -> Vec<Named> {
     let mut list = trials();
     list.extend(counts(&problems));
     list.extend(alike(&problems));
+    list.extend(full(&problems));
     list.extend(not_finite(chance));
     list.extend(edges(chance));
     list.extend(limits(chance));
@@ -59,44 +61,39 @@ fn counts(problems: &[Input]) -> Vec<Named> {
     named("count", taken)
 }
 
-/// Problems with one answer, forwards and backwards, alone and together; and as many as a deck may
-/// have of those that are solved, of those that are not, and of both in turn.
+/// Problems with each answer, forwards and backwards, alone and together.
 fn alike(problems: &[Input]) -> Vec<Named> {
-    let answered: Vec<(Option<u32>, Input)> = problems
-        .iter()
-        .map(|problem| (kepler::answer(problem).refusal(), *problem))
-        .collect();
-    let of = |wanted: &dyn Fn(Option<u32>, &Input) -> bool, most: usize| -> Vec<Input> {
-        let found = answered
-            .iter()
-            .filter(|(answer, input)| wanted(*answer, input));
-        found.map(|(_, input)| *input).take(most).collect()
-    };
     let mut list = Vec::new();
     for answer in ANSWERS {
-        for back in [false, true] {
-            let found = of(
-                &|given, input| given == answer && backwards(input) == back,
-                16,
-            );
-            assert!(found.len() == 16, "too few problems with one answer");
+        for sign in [0, 1] {
+            let alike = |input: &Input| refusal(input) == answer && input.words[SPAN] >> 63 == sign;
+            let found = first(16, problems, alike);
             list.extend(named("alone", found[..4].chunks(1).map(joined)));
             list.extend(named("together", [joined(&found[4..])]));
         }
     }
-    let solved = of(&|answer, _| answer.is_none(), 256);
-    let refused = of(&|answer, _| answer.is_some(), 256);
-    let turns = solved.iter().zip(&refused).flat_map(|(a, b)| [*a, *b]);
-    let turns: Vec<Input> = turns.take(256).collect();
-    list.extend(named(
-        "all",
-        [solved, refused, turns].map(|all| joined(&all)),
-    ));
     list
 }
 
-fn backwards(input: &Input) -> bool {
-    input.words[SPAN] >> 63 == 1
+/// As many as a deck may have: all solved, which is the largest deck, all refused, and in turn.
+fn full(problems: &[Input]) -> Vec<Named> {
+    let solved = first(MOST_CARDS, problems, |input| refusal(input).is_none());
+    let refused = first(MOST_CARDS, problems, |input| refusal(input).is_some());
+    let turns = solved.iter().zip(&refused).flat_map(|(a, b)| [*a, *b]);
+    let turns: Vec<Input> = turns.take(MOST_CARDS).collect();
+    named("full", [solved, refused, turns].map(|all| joined(&all)))
+}
+
+fn refusal(problem: &Input) -> Option<u32> {
+    kepler::answer(problem).refusal()
+}
+
+/// The first problems of a kind.
+fn first(count: usize, problems: &[Input], wanted: impl Fn(&Input) -> bool) -> Vec<Input> {
+    let found = problems.iter().copied().filter(|problem| wanted(problem));
+    let found: Vec<Input> = found.take(count).collect();
+    assert!(found.len() == count, "too few problems of a kind");
+    found
 }
 
 /// Each number no finite number, one problem in a file; and with payloads by chance, one number of
