@@ -2,89 +2,113 @@
 # are compared. For bash, sourced at the top of the repository.
 # shellcheck shell=bash disable=SC2034
 
-# A suite: the program's name here and in the independent program; the bytes of one of its inputs, or
-# '-' where these have many sizes and each is a file of its own, NAME.deck; the fewest inputs that the
-# gate takes; and the fewest answers of each kind among them.
+# A suite: the program's name here and in the independent program; the form of its inputs: the bytes of
+# one, or, where these have many sizes and each is a file of its own, the ending of the files' names; the
+# fewest inputs that the gate takes; and the fewest answers of each kind among them.
 suites=(
     "roots 8 20000 refused 1: 1000, refused 13: 1000, root: 20000"
     "predict 68 20000 refused 1: 20, refused 2: 20, refused 3: 20, refused 5: 20, refused 6: 20, \
 refused 7: 20, refused 8: 20, refused 9: 20, refused 10: 20, refused 11: 20, solved: 10000"
     "turn 64 10000 refused 1: 20, refused 2: 20, refused 4: 20, refused 5: 20, refused 6: 20, \
 refused 7: 20, refused 11: 20, refused 12: 20, solved: 5000"
-    "check_deck - 3000 solved 0: 10000, solved 1: 20, solved 2: 20, solved 3: 20, solved 5: 20, \
+    "check_deck .deck 3000 solved 0: 10000, solved 1: 20, solved 2: 20, solved 3: 20, solved 5: 20, \
 solved 6: 20, solved 7: 20, solved 8: 20, solved 11: 20, solved 20: 20, solved 21: 20, solved 22: 20, \
 solved 23: 20, refused 0: 5000, refused 23: 20, refused 24: 20, deck 30: 20, deck 31: 20, deck 32: 20, \
 deck 33: 20, deck 34: 20, deck 35: 20, deck 36: 20, deck 37: 20, deck 38: 20"
+    "write_deck .problems 500 solved: 3000, refused 1: 100, refused 2: 100, refused 3: 100, refused 5: 50, \
+refused 6: 50, refused 7: 50, refused 8: 50, refused 9: 32, refused 10: 50, refused 11: 50, deck 40: 10, \
+deck 46: 100, cards 0: 4, cards 1: 100, cards 2: 4, cards 255: 3, cards 256: 6, cards between: 100"
+    "copy_deck .deck 600 same: 500, cleared: 60, deck 30: 8, deck 31: 2, deck 32: 2, deck 33: 2, deck 34: 2, \
+deck 35: 2, deck 36: 2, deck 37: 2, deck 38: 2, cards 0: 2, cards 1: 2, cards 2: 2, cards 255: 1, \
+cards 256: 2, cards between: 400"
 )
 
 independent=independent/target/release/independent
+
+# Where the first input is kept whose answer is wrong.
+keep=independent/target
 
 # Cargo may have been told to build elsewhere; the path above would then name an old program.
 build_independent() {
     (cd independent && CARGO_TARGET_DIR=target cargo build --release --offline --quiet)
 }
 
+in_files() { # FORM
+    [[ $1 == .* ]]
+}
+
 # The most inputs that are compared at a time: they and their answers take room.
-batch_of() { # WIDTH
-    if [ "$1" = - ]; then echo 1000; else echo 65536; fi
+batch_of() { # FORM
+    if in_files "$1"; then echo 1000; else echo 65536; fi
 }
 
 # Has the independent program make inputs, in the file or folder PLACE.
-make_inputs() { # NAME WIDTH PLACE COMMAND...
-    local name=$1 width=$2 place=$3
+make_inputs() { # NAME FORM PLACE COMMAND...
+    local name=$1 form=$2 place=$3
     shift 3
-    if [ "$width" = - ]; then
+    if in_files "$form"; then
         rm -rf "$place" && mkdir "$place" && "$independent" "$name" "$@" "$place"
     else
         "$independent" "$name" "$@" >"$place"
     fi
 }
 
-count_inputs() { # WIDTH PLACE
-    if [ "$1" = - ]; then
-        find "$2" -name '*.deck' | wc -l
+count_inputs() { # FORM PLACE
+    if in_files "$1"; then
+        find "$2" -name "*$1" | wc -l
     else
         echo $(($(wc -c <"$2") / $1))
     fi
 }
 
 # The proved program's answers, into the file or folder OURS.
-answer_ours() { # NAME WIDTH INPUTS OURS
-    if [ "$2" != - ]; then
+answer_ours() { # NAME FORM INPUTS OURS
+    if in_files "$2"; then
+        find "$3" -name "*$2" -print0 | answer_files "$1" "$4"
+    else
         ./tailfiddle run "$1" <"$3" >"$4"
-        return
     fi
-    # It is first run alone, so that a program that is not built yet is built once.
-    mkdir "$4" && ./tailfiddle run "$1" </dev/null >/dev/null &&
-        find "$3" -name '*.deck' -print0 | xargs -0 -n 100 -P "$(nproc)" ./tailfiddle run "$1" "$4"
+}
+
+# Its answers to the files whose names come in, a zero byte behind each, into a new folder: the answer to
+# NAME.deck, or to NAME with another ending, is NAME.answer. The program is first run alone, so that it is
+# built once where it is not built yet.
+answer_files() { # NAME INTO
+    mkdir "$2" && ./tailfiddle run "$1" </dev/null >/dev/null &&
+        xargs -0 -r -n 100 -P "$(nproc)" ./tailfiddle run "$1" "$2"
 }
 
 # The independent program's, into the file or folder THEIRS.
-answer_theirs() { # NAME WIDTH INPUTS THEIRS
-    if [ "$2" != - ]; then
-        "$independent" "$1" answers <"$3" >"$4"
-    else
+answer_theirs() { # NAME FORM INPUTS THEIRS
+    if in_files "$2"; then
         mkdir "$4" && "$independent" "$1" answers "$3" "$4"
+    else
+        "$independent" "$1" answers <"$3" >"$4"
     fi
 }
 
-# Runs inputs through the proved program and through the independent one and compares the answers.
-# Says what is wrong; status 1 for a difference, 2 where a program failed. How often each kind of
-# answer was reached is added to the file KINDS.
-compare() { # NAME WIDTH INPUTS KINDS
-    local name=$1 width=$2 inputs=$3 kinds=$4 ours=$3.ours theirs=$3.theirs same=same_lines
-    [ "$width" != - ] || same=same_listings
+# Runs inputs through the proved program and through the independent one and compares the answers. The
+# decks that write_deck has written are checked too. Says what is wrong; status 1 for a difference, 2
+# where a program failed. How often each kind of answer was reached is added to the file KINDS.
+compare() { # NAME FORM INPUTS KINDS
+    local name=$1 form=$2 inputs=$3 kinds=$4 ours=$3.ours theirs=$3.theirs same=same_lines
+    ! in_files "$form" || same=same_files
     rm -rf "$ours" "$theirs"
-    if ! answer_ours "$name" "$width" "$inputs" "$ours"; then
+    if ! answer_ours "$name" "$form" "$inputs" "$ours"; then
         echo "$name: the proved program failed"
         return 2
     fi
-    if ! answer_theirs "$name" "$width" "$inputs" "$theirs"; then
+    if ! answer_theirs "$name" "$form" "$inputs" "$theirs"; then
         echo "$name: the independent program failed"
         return 2
     fi
-    "$same" "$name" "$width" "$inputs" "$ours" "$theirs" || return 1
-    kinds_of "$width" "$ours" | sort | uniq -c >>"$kinds"
+    "$same" "$name" "$form" "$inputs" "$ours" "$theirs" || return 1
+    if [ "$name" = write_deck ]; then accepted "$inputs" "$ours" || return; fi
+    if ! kinds_of "$name" "$form" "$inputs" "$ours" >"$ours.kinds"; then
+        echo "$name: an answer is of no kind that there is"
+        return 2
+    fi
+    sort "$ours.kinds" | uniq -c >>"$kinds"
 }
 
 # The number of the first line in which two files differ; nothing where there is none.
@@ -92,9 +116,11 @@ first_difference() { # FILE FILE
     paste -d '|' "$1" "$2" | awk -F '|' '$1 "" != $2 "" { print NR; exit }'
 }
 
-show_both() { # PLACE OURS THEIRS
-    echo "  proved program:             $(sed -n "$1p" "$2")"
-    echo "  independent program:        $(sed -n "$1p" "$3")"
+line_of() { sed -n "$1p" "$2"; } # PLACE FILE
+
+show_both() { # OURS THEIRS
+    echo "  proved program:             $1"
+    echo "  independent program:        $2"
 }
 
 # One line for each input.
@@ -105,7 +131,7 @@ same_lines() { # NAME WIDTH INPUTS OURS THEIRS
     if [ -n "$place" ]; then
         echo "$name: the answers differ, first at input $place of $count"
         echo "  input, in words of 8 bytes: $(od -An -v -t x8 -j $(((place - 1) * width)) -N "$width" "$inputs" | xargs)"
-        show_both "$place" "$ours" "$theirs"
+        show_both "$(line_of "$place" "$ours")" "$(line_of "$place" "$theirs")"
         return 1
     fi
     if [ "$(wc -l <"$ours")" -ne "$count" ]; then
@@ -114,36 +140,96 @@ same_lines() { # NAME WIDTH INPUTS OURS THEIRS
     fi
 }
 
-# One listing for each deck, the same to the last byte.
-same_listings() { # NAME WIDTH INPUTS OURS THEIRS
-    local name=$1 inputs=$3 ours=$4 theirs=$5 deck listing
+# One file for each input, the same to the last byte.
+same_files() { # NAME ENDING INPUTS OURS THEIRS
+    local name=$1 ending=$2 inputs=$3 ours=$4 theirs=$5 count proved other input answer
+    count=$(count_inputs "$ending" "$inputs")
+    proved=$(count_inputs .answer "$ours")
+    other=$(count_inputs .answer "$theirs")
+    if [ "$proved" -ne "$count" ] || [ "$other" -ne "$count" ]; then
+        echo "$name: $count inputs, and $proved answers of the proved program, $other of the independent one"
+        return 1
+    fi
     ! diff -rq "$ours" "$theirs" >/dev/null || return 0
-    for deck in "$inputs"/*.deck; do
-        listing=$(basename "$deck" .deck).listing
-        cmp -s "$ours/$listing" "$theirs/$listing" || break
+    for input in "$inputs"/*"$ending"; do
+        answer=$(basename "$input" "$ending").answer
+        cmp -s "$ours/$answer" "$theirs/$answer" || break
     done
-    echo "$name: the listings differ, first of ${deck##*/}, $(wc -c <"$deck") bytes"
-    show_listings "$deck" "$ours/$listing" "$theirs/$listing"
+    echo "$name: the answers differ, first for ${input##*/}, $(wc -c <"$input") bytes"
+    show_input "$input"
+    show_difference "$ours/$answer" "$theirs/$answer"
     return 1
 }
 
-# A deck and where its two listings first differ. The deck is kept.
-show_listings() { # DECK OURS THEIRS
-    local kept=independent/target/differs.deck place
+# An input that is a file. It is kept.
+show_input() { # INPUT
+    local kept=$keep/differs.${1##*.}
     cp "$1" "$kept" && echo "  it is kept:                 $kept"
     [ "$(wc -c <"$1")" -gt 400 ] ||
-        echo "  deck, in hex:               $(od -An -v -t x1 "$1" | tr -d ' \n')"
-    place=$(first_difference "$2" "$3")
-    echo "  first in line:              ${place:-none; the last one is ended in one listing alone}"
-    show_both "${place:-$}" "$2" "$3"
+        echo "  input, in hex:              $(od -An -v -t x1 "$1" | tr -d ' \n')"
 }
 
-kinds_of() { # WIDTH ANSWERS
-    if [ "$1" != - ]; then
-        awk '{ print $1 == "refused" ? $1 " " $2 : $1 }' "$2"
+# Where two answers first differ: in a line, or, where one of them is no text, at a byte.
+show_difference() { # OURS THEIRS
+    local place
+    if is_text "$1" && is_text "$2"; then
+        place=$(first_difference "$1" "$2")
+        echo "  first in line:              ${place:-none; the last one is ended in one answer alone}"
+        show_both "$(line_of "${place:-$}" "$1")" "$(line_of "${place:-$}" "$2")"
     else
-        find "$2" -type f -exec cat {} + | awk '$1 == "card" { print $3 " " $4 } $1 == "deck"'
+        place=$(first_byte "$1" "$2")
+        echo "  first at byte, from 0 on:   $place, in hex"
+        show_both "$(byte_of "$place" "$1")" "$(byte_of "$place" "$2")"
     fi
+}
+
+is_text() { # FILE
+    [ "$(tr -d '\n -~' <"$1" | wc -c)" -eq 0 ]
+}
+
+# How many bytes two files have in common before they first differ or one ends.
+first_byte() { # FILE FILE
+    { cmp -l "$1" "$2" 2>/dev/null; wc -c <"$1"; wc -c <"$2"; } |
+        awk 'NF == 3 { place = $1 - 1; exit } NR == 1 || $1 < place { place = $1 } END { print place }'
+}
+
+byte_of() { # PLACE FILE
+    local byte
+    byte=$(od -An -v -t x1 -j "$1" -N 1 "$2" | tr -d ' ')
+    echo "${byte:-none, it has ended}, of $(wc -c <"$2") bytes"
+}
+
+kinds_of() { # NAME FORM INPUTS ANSWERS
+    if in_files "$2"; then
+        "$independent" "$1" kinds "$3" "$4"
+    else
+        awk '{ print $1 == "refused" ? $1 " " $2 : $1 }' "$4"
+    fi
+}
+
+# Has check_deck list the decks that write_deck wrote for whole problems, 256 at most: each has a card for
+# each problem, and no verdict but 0. Status as compare's.
+accepted() { # PROBLEMS DECKS
+    local listings=$2.listed name count
+    rm -rf "$listings"
+    find "$1" -name '*.problems' -printf '%f %s\n' |
+        awk '$2 % 68 == 0 && $2 <= 256 * 68 { print substr($1, 1, length($1) - 9), $2 / 68 }' >"$2.counts"
+    if ! while read -r name _; do printf '%s\0' "$2/$name.answer"; done <"$2.counts" | answer_files check_deck "$listings"; then
+        echo "check_deck: the proved program failed on a deck that write_deck wrote"
+        return 2
+    fi
+    while read -r name count; do
+        all_accepted "$count" "$listings/$name.answer" && continue
+        echo "write_deck: check_deck does not accept each card of the deck for $name.problems, $count problems"
+        echo "  it lists:                   $(grep -v '^card .* 0$' "$listings/$name.answer" | head -n 1)"
+        show_input "$1/$name.problems"
+        return 1
+    done <"$2.counts"
+}
+
+# Whether a listing is one of COUNT cards with the verdict 0: before its last three lines stands nothing else.
+all_accepted() { # COUNT LISTING
+    awk -v count="$1" '/^card [0-9]+ (solved|refused) 0$/ { good++ } END { exit !(good + 0 == count && NR == count + 3) }' "$2"
 }
 
 # Prints what compare has added to KINDS, a line for each kind: 'refused 9: 78'.
