@@ -84,7 +84,8 @@ fn with_word(card: &Card, at: usize, word: u64) -> Card {
 fn with_a_spare(chance: &mut Chance) -> Vec<Named> {
     let a = cards_of_a();
     let bits = (0..4).flat_map(|byte| [1, 0x80, 0xff].map(|bits| bits << (8 * byte)));
-    let altered = bits.flat_map(|bits| (0..a.len()).flat_map(move |place| altered(a, place, bits)));
+    let altered =
+        bits.flat_map(|bits| (0..a.len()).flat_map(move |place| with_bits(a, place, bits)));
     let others = dealt(&spares(chance), 16, chance);
     let full: Vec<Card> = (0..MOST_CARDS)
         .map(|place| every_spare(&a[place % 3]))
@@ -100,7 +101,7 @@ fn with_a_spare(chance: &mut Chance) -> Vec<Named> {
 }
 
 /// The decks in which one card has these bits in one of its spares.
-fn altered(cards: [Card; 3], place: usize, bits: u32) -> Vec<Vec<u8>> {
+fn with_bits(cards: [Card; 3], place: usize, bits: u32) -> Vec<Vec<u8>> {
     let with = |card: Card| {
         let mut cards = cards;
         cards[place] = card;
