@@ -1,0 +1,65 @@
+"""`help`: what each command takes, prints and means."""
+
+from __future__ import annotations
+
+import os
+
+from front import streams
+
+TEXT = """\
+usage: ./tailfiddle predict MU RX RY RZ VX VY VZ DT LIMIT   the state after DT seconds
+       ./tailfiddle turn MU RX RY RZ VX VY VZ A             the state through an angle of A radians
+       ./tailfiddle root NUMBER...                          the number nearest each square root
+       ./tailfiddle predict|turn|root -                     the same for inputs on standard input
+       ./tailfiddle check FILE                              the verdicts on a deck of cards
+       ./tailfiddle check -                                 the same for a deck on standard input
+       ./tailfiddle why NUMBER                              what a number in an answer means
+       ./tailfiddle why                                     the numbers that have a meaning
+       ./tailfiddle help                                    this text
+
+MU is in km^3/s^2, R in km, V in km/s. Each of them, DT, A and root's NUMBER is a decimal (2, -1,
+0.1, 1e-300, -0, inf, nan), taken as the nearest binary64 number (beyond the largest one: infinity),
+or 0x and the 16 hex digits of a word (0x4000000000000000). LIMIT, the most guesses that are made,
+is a whole number, 0 to 4294967295; predict refuses all but 1 to 100.
+
+The program's own line comes first: 'solved', the guesses made, x (of turn the angle), position
+and velocity, as words in hex; or 'refused', the reason's number, the guesses made and, with 9 and
+10, the last bracket. Below it the same in decimals, and the reason in words; 'why' with its number
+tells more of it. root gives one line for each NUMBER: 'root', the word and its decimal value, or
+'refused' and the reason: 1, it is infinite or not a number; 13, it is below zero.
+
+Inputs for '-' are little-endian: the words in the order above, then LIMIT in 4 bytes; as many as
+come. The lines are the program's own, and 'short' ends them where an input is cut off.
+
+check prints the program's listing to the letter, and only when it is whole. A line for each card:
+'card', its place, 'solved' or 'refused', and the verdict, 0 where it is accepted; then the totals;
+then 'mean' and 'worst' of the solved cards' |T - t|, as words in hex, or 'none'. Of a deck that is
+refused, one line: 'deck' and the reason's number. Then, on standard error, it says what each number
+but 0 in the listing means, a line each; where every card is accepted, nothing.
+
+why prints what docs/REFUSALS.md says of the NUMBER of a refusal or verdict, written as in the lines
+above: 22, and not 022. Without a NUMBER it prints each that there is, and in short what it means.
+
+A program that is not built yet is first proved and built with the Rattle kit. RATTLE_HOME names
+the kit's folder where it is not the one of the 'rt' on the PATH.
+
+Status: 0 every answer is solved or a root, no card of the deck is rejected, why has an entry;
+1 an answer, the deck or a card was refused or rejected, or the lines end with 'short';
+2 wrong usage, or something is missing or fails: a closed input, a read, a write, a program. What
+predict, turn or root had printed is then not all.
+"""
+
+
+def run(texts: list[str]) -> int:
+    """Prints the text."""
+    streams.show(TEXT, "help: what it prints could not be written")
+    return 0
+
+
+def without_command() -> int:
+    """Says the text where no command is given."""
+    try:
+        streams.write(2, os.fsencode(TEXT))
+    except OSError:
+        pass
+    return 2
