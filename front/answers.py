@@ -7,8 +7,6 @@ line is `solved` or `root`, else 1.
 
 from __future__ import annotations
 
-import os
-
 from front import built, page, streams, words
 from front.kit import Running
 from front.streams import Stop
@@ -119,10 +117,11 @@ def pass_lines(source: int) -> tuple[int, bytes]:
     rest = b""
     count = 0
     for block in streams.blocks(source):
-        lines, end, rest = (rest + block).rpartition(b"\n")
-        if end:
-            streams.write(1, lines + end)
-            count += others(lines + end)
+        block = rest + block
+        end = block.rfind(b"\n") + 1
+        lines, rest = block[:end], block[end:]
+        streams.write(1, lines)
+        count += others(lines)
     return count, rest
 
 

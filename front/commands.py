@@ -10,6 +10,7 @@ import importlib
 import os
 
 from front import streams
+from front.streams import signal
 
 COMMANDS = ("predict", "turn", "root", "write", "show", "check", "why", "run", "help")
 OTHER_NAMES = {"-h": "help", "--help": "help"}
@@ -40,8 +41,6 @@ def run(words: list[str]) -> int:
 
 def interrupted() -> int:
     """Ends as a program does that SIGINT ends, so that the caller hears of it."""
-    import signal
-
     signal.signal(signal.SIGINT, signal.SIG_DFL)
     os.kill(os.getpid(), signal.SIGINT)
     return 128 + signal.SIGINT

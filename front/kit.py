@@ -11,7 +11,7 @@ from __future__ import annotations
 import os
 
 from front import streams
-from front.streams import Stop
+from front.streams import Stop, signal
 
 TYPE_CHECKING = False
 if TYPE_CHECKING:
@@ -95,8 +95,6 @@ class Running:
 
     def stop(self) -> None:
         """Ends both at once."""
-        import signal
-
         for process in (self.program, self.feeder):
             os.kill(process, signal.SIGKILL)
         self.end()
@@ -109,29 +107,24 @@ class Running:
 
 
 # What Python ignores and a program must not.
-IGNORED = ("SIGPIPE", "SIGXFSZ")
+IGNORED = (signal.SIGPIPE, signal.SIGXFSZ)
 
 
 def start(command: list[str], source: int, sink: int, quiet: bool = False) -> int:
     """Starts a program with these descriptors as standard input and output, and gives its process."""
-    import signal
-
     actions = [(os.POSIX_SPAWN_DUP2, source, 0), (os.POSIX_SPAWN_DUP2, sink, 1)]
     if quiet:
         actions.append((os.POSIX_SPAWN_OPEN, 2, os.devnull, os.O_WRONLY, 0))
-    default = [getattr(signal, name) for name in IGNORED]
     try:
-        return os.posix_spawn(command[0], command, os.environ, file_actions=actions, setsigdef=default)
+        return os.posix_spawn(command[0], command, os.environ, file_actions=actions, setsigdef=IGNORED)
     except OSError as failure:
         raise Stop(f"{command[0]} could not be run: {failure.strerror}") from None
 
 
 def become(command: list[str]) -> None:
     """Goes on as the program, with the descriptors as they are."""
-    import signal
-
-    for name in IGNORED:
-        signal.signal(getattr(signal, name), signal.SIG_DFL)
+    for number in IGNORED:
+        signal.signal(number, signal.SIG_DFL)
     try:
         os.execv(command[0], command)
     except OSError as failure:

@@ -6,6 +6,8 @@ what failed is heard of. A failure that ends a command is a Stop.
 
 from __future__ import annotations
 
+# `signal` without its enums, which take longer to load than all else here.
+import _signal as signal
 import os
 
 TYPE_CHECKING = False
@@ -106,8 +108,6 @@ def read_most(descriptor: int, most: int) -> bytes:
 
 def catch_signals(command: str) -> None:
     """From now on a signal that asks the command to end is a Stop. It may come twice."""
-    import signal
-
     ending = (signal.SIGHUP, signal.SIGINT, signal.SIGTERM)
 
     def stop(number: int, frame: object) -> None:
