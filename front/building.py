@@ -6,6 +6,7 @@ import fcntl
 import os
 import select
 import subprocess
+import time
 
 from front import streams
 from front.built import CRATES, QUIET, Program
@@ -72,33 +73,48 @@ def run_rt(program: Program, rt: str) -> tuple[int, bytes]:
         stderr=subprocess.STDOUT,
     )
     try:
-        said = follow(child.stdout.fileno(), program.crates())
+        said = follow(child.stdout.fileno(), program)
         return child.wait(), said
     except BaseException:
         child.terminate()
         raise
 
 
-def follow(source: int, crates: list[str]) -> bytes:
+def follow(source: int, program: Program) -> bytes:
     """Reads what rt prints to its end. Where rt is quiet, it is said which crate is being proved."""
+    crates = program.crates()
+    began = time.time()
     said = b""
-    told = -1
+    told = ""
     while True:
-        done = proved(said, crates)
-        quiet = not select.select([source], [], [], QUIET)[0]
-        if quiet and told < done < len(crates):
-            streams.say(f"proving {crates[done]}, {done + 1} of {len(crates)}")
-            told = done
-        if quiet:
-            select.select([source], [], [])
+        if not select.select([source], [], [], QUIET)[0]:
+            crate = at_work(program.top, unproved(said, crates), began)
+            if crate != told:
+                streams.say(f"proving {crate}, {crates.index(crate) + 1} of {len(crates)}")
+                told = crate
+            continue
         block = os.read(source, streams.BLOCK)
         if not block:
             return said
         said += block
 
 
-def proved(said: bytes, crates: list[str]) -> int:
-    """How many of the crates rt has dealt with: a line of its own says so of each."""
-    lines = said.decode("utf-8", "replace").split("\n")
-    ended = {line.split(" ")[1] for line in lines if line.startswith("rt: ") and line.count(" ") > 1}
-    return len(ended.intersection(crates))
+def unproved(said: bytes, crates: list[str]) -> list[str]:
+    """The crates of which rt has not yet said, in a line of its own, what became of them."""
+    words = [line.split(" ") for line in said.decode("utf-8", "replace").split("\n")]
+    ended = {line[1] for line in words if line[0] == "rt:" and len(line) > 2}
+    return [crate for crate in crates if crate not in ended] or crates[-1:]
+
+
+def at_work(top: str, crates: list[str], began: float) -> str:
+    """The first of the crates that rt is at. It proves some side by side, and speaks of them together;
+    till then the log of each that it has begun is empty."""
+    for crate in crates:
+        try:
+            log = os.stat(os.path.join(top, "target", "log", crate + ".out"))
+        except OSError:
+            continue
+        # A file's time can lie a little before the clock's.
+        if log.st_size == 0 and log.st_mtime > began - 1:
+            return crate
+    return crates[0]

@@ -82,15 +82,16 @@ class Program:
         """The program's crate and those that it stands on, in the order in which rt proves them."""
         below = standing(self.top)
         levels: dict[str, int] = {}
+        entered = set()
 
-        def level(crate: str) -> int:
-            if crate not in levels:
-                levels[crate] = 0
-                levels[crate] = max((level(one) + 1 for one in below[crate] if one in below), default=0)
-            return levels[crate]
+        def visit(crate: str) -> int:
+            if crate not in entered:
+                entered.add(crate)
+                levels[crate] = max((visit(one) + 1 for one in below[crate] if one in below), default=0)
+            return levels.get(crate, 0)
 
         if self.name in below:
-            level(self.name)
+            visit(self.name)
         return sorted(levels, key=lambda crate: levels[crate])
 
 

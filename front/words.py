@@ -10,7 +10,6 @@ from __future__ import annotations
 
 import struct
 
-WORD_BYTES = 8
 NAN = 0x7FF8000000000000
 INFINITY = 0x7FF0000000000000
 SIGN = 1 << 63
@@ -104,12 +103,14 @@ def special(word: int) -> str:
 # ---- records
 
 
+def field(text: str, is_whole: bool) -> bytes:
+    """A number as people write it, as bytes: 8 of a word, 4 of a whole number."""
+    return struct.pack("<I", whole(text)) if is_whole else struct.pack("<Q", word(text))
+
+
 def packed(texts: list[str], whole_place: int = -1) -> bytes:
-    """Numbers as people write them, as bytes. That at `whole_place`, if any, is a whole one."""
-    return b"".join(
-        struct.pack("<I", whole(text)) if place == whole_place else struct.pack("<Q", word(text))
-        for place, text in enumerate(texts)
-    )
+    """Numbers one behind the other. That at `whole_place`, if any, is a whole one."""
+    return b"".join(field(text, place == whole_place) for place, text in enumerate(texts))
 
 
 # ---- decks

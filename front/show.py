@@ -1,0 +1,114 @@
+"""`show`: the cards of a deck as people read them.
+
+The verdicts are those of `check_deck`; a deck that it refuses is not shown. The numbers are the fields
+of the cards' bytes, in as few digits as read back as the same word. With --problems the problems
+alone are printed, as lines that `write` takes. Two cards are shown so:
+
+    card 1: solved; accepted
+      problem  mu        398600.4418 km^3/s^2
+               position  7000 0 0 km
+               velocity  0 7.5 1 km/s
+               time      3600 s
+               limit     20
+      answer   x         3.8563973673999987
+               position  -5400.9115774829925 -4517.529081172816 -602.3372108230421 km
+               velocity  4.853466182834457 -5.660956476685204 -0.7547941968913605 km/s
+
+    card 2: refused; rejected with 24: Kepler does not refuse with this number
+      problem  mu        1 km^3/s^2
+               position  1 0 0 km
+               velocity  0 1 0 km/s
+               time      0 s
+               limit     20
+      answer   refusal   7: a straight line
+
+    2 cards: 1 solved, 0 refused, 1 rejected
+"""
+
+from __future__ import annotations
+
+from front import check, page, problems, streams, words
+from front.listing import Listing
+from front.streams import Stop
+
+PROBLEMS = "--problems"
+
+
+def run(texts: list[str]) -> int:
+    """One file, or '-'; and --problems, if the problems alone are wanted."""
+    files = [text for text in texts if text != PROBLEMS]
+    if len(files) != 1:
+        raise Stop(f"show takes one DECK, or '-', and {len(files)} were given; './tailfiddle help' tells more")
+    streams.catch_signals("show")
+    streams.need_output("show")
+    deck, _, said = check.checked("show", files[0])
+    if said.refusal is not None:
+        streams.say(f"the deck is refused with {page.explained(said.refusal)}")
+        return said.status()
+    cards = cards_of(deck, said)
+    text = shown(cards, said) if files == texts else "".join(f"{problems.line_of(card)}\n" for card in cards)
+    streams.show(text, "show: the cards could not be written; what was printed is not all")
+    return said.status()
+
+
+def cards_of(deck: bytes, said: Listing) -> list[words.Card]:
+    """The cards of a deck that was accepted. The listing has to be that of this deck."""
+    try:
+        cards = words.cards(deck)
+    except ValueError:
+        cards = []
+    if [card.kind for card in cards] != [kind for kind, _ in said.cards]:
+        raise Stop(f"the program {check.PROGRAM} printed a listing that is not this deck's")
+    return cards
+
+
+def shown(cards: list[words.Card], said: Listing) -> str:
+    """All cards, and the totals."""
+    texts = [card_text(place, card, said.cards[place - 1][1]) for place, card in enumerate(cards, 1)]
+    solved, refused, rejected = said.totals
+    plural = "" if len(cards) == 1 else "s"
+    totals = f"{len(cards)} card{plural}: {solved} solved, {refused} refused, {rejected} rejected\n"
+    return "\n".join([*texts, totals])
+
+
+def card_text(place: int, card: words.Card, verdict: int) -> str:
+    """A card: its place, kind and verdict, then its fields."""
+    judged = f"rejected with {verdict}: {page.reason(verdict)}" if verdict else "accepted"
+    rows = [*rows_of("problem", problem_fields(card)), *rows_of("answer", answer_fields(card))]
+    return "".join(f"{line}\n" for line in [f"card {place}: {card.kind}; {judged}", *rows])
+
+
+def rows_of(part: str, fields: list[tuple[str, str]]) -> list[str]:
+    """The rows of a part of a card; its name stands in the first."""
+    return [f"  {'' if at else part:<7}  {name:<9} {text}" for at, (name, text) in enumerate(fields)]
+
+
+def problem_fields(card: words.Card) -> list[tuple[str, str]]:
+    """The problem, with its units; the spare where it is not 0."""
+    mu, *state, dt = card.numbers
+    return [
+        ("mu", f"{words.shortest(mu)} km^3/s^2"),
+        *state_fields(state),
+        ("time", f"{words.shortest(dt)} s"),
+        ("limit", str(card.limit)),
+        *spare_fields(card.spares[:1]),
+    ]
+
+
+def answer_fields(card: words.Card) -> list[tuple[str, str]]:
+    """The answer: x, which has no unit, and the state; or the refusal, and its spare where it is not 0."""
+    if card.kind == "solved":
+        x, *state = card.answer
+        return [("x", words.shortest(x)), *state_fields(state)]
+    return [("refusal", f"{card.refusal}: {page.reason(card.refusal)}"), *spare_fields(card.spares[1:])]
+
+
+def state_fields(state: list[int]) -> list[tuple[str, str]]:
+    """A position and a velocity."""
+    numbers = [words.shortest(word) for word in state]
+    return [("position", " ".join(numbers[:3]) + " km"), ("velocity", " ".join(numbers[3:]) + " km/s")]
+
+
+def spare_fields(spares: list[int]) -> list[tuple[str, str]]:
+    """What stands where nothing belongs."""
+    return [("spare", str(spare)) for spare in spares if spare]
