@@ -11,8 +11,11 @@ usage: ./tailfiddle predict MU RX RY RZ VX VY VZ DT LIMIT   the state after DT s
        ./tailfiddle turn MU RX RY RZ VX VY VZ A             the state through an angle of A radians
        ./tailfiddle root NUMBER...                          the number nearest each square root
        ./tailfiddle predict|turn|root -                     the same for inputs on standard input
+       ./tailfiddle write PROBLEMS OUT                      a deck of cards from a text file
        ./tailfiddle check FILE                              the verdicts on a deck of cards
-       ./tailfiddle check -                                 the same for a deck on standard input
+       ./tailfiddle show FILE                               the cards of a deck, in decimals
+       ./tailfiddle show --problems FILE                    its problems, as write takes them
+       ./tailfiddle check|show -                            the same for a deck on standard input
        ./tailfiddle why NUMBER                              what a number in an answer means
        ./tailfiddle why                                     the numbers that have a meaning
        ./tailfiddle help                                    this text
@@ -31,19 +34,34 @@ tells more of it. root gives one line for each NUMBER: 'root', the word and its 
 Inputs for '-' are little-endian: the words in the order above, then LIMIT in 4 bytes; as many as
 come. The lines are the program's own, and 'short' ends them where an input is cut off.
 
+write takes a problem a line: MU RX RY RZ VX VY VZ DT LIMIT, with blanks between them. What stands
+behind a # is a comment, and lines without a problem are passed over. Each problem is predicted, and
+becomes a card: solved, with its x and state, or refused, with the reason's number. OUT appears
+whole or not at all, in the place of an older one; '-' is standard input for PROBLEMS, and standard
+output for OUT. On standard error it says how many cards are solved and refused, and why those are.
+Where a line is wrong, or there are more than 256 problems, it says so, and nothing is written.
+
 check prints the program's listing to the letter, and only when it is whole. A line for each card:
 'card', its place, 'solved' or 'refused', and the verdict, 0 where it is accepted; then the totals;
 then 'mean' and 'worst' of the solved cards' |T - t|, as words in hex, or 'none'. Of a deck that is
 refused, one line: 'deck' and the reason's number. Then, on standard error, it says what each number
 but 0 in the listing means, a line each; where every card is accepted, nothing.
 
+show prints for each card its place, kind and verdict, the problem and the answer, with units, in as
+few digits as read back as the same number; then the totals. The verdicts are check's. Of a deck
+that is refused it says why, and prints nothing. With --problems it prints a line for each card, in
+17 digits, that write reads back to the bit: of a deck that write has written, write makes the same
+bytes again.
+
 why prints what docs/REFUSALS.md says of the NUMBER of a refusal or verdict, written as in the lines
 above: 22, and not 022. Without a NUMBER it prints each that there is, and in short what it means.
 
-A program that is not built yet is first proved and built with the Rattle kit. RATTLE_HOME names
-the kit's folder where it is not the one of the 'rt' on the PATH.
+A program that is not built yet, or is older than its sources, is first proved and built with the
+Rattle kit; standard error tells which crate is being proved. RATTLE_HOME names the kit's folder
+where it is not the one of the 'rt' on the PATH.
 
-Status: 0 every answer is solved or a root, no card of the deck is rejected, why has an entry;
+Status: 0 every answer is solved or a root, every card that is written is solved, no card of the
+deck is rejected, why has an entry;
 1 an answer, the deck or a card was refused or rejected, or the lines end with 'short';
 2 wrong usage, or something is missing or fails: a closed input, a read, a write, a program. What
 predict, turn or root had printed is then not all.
