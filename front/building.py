@@ -73,7 +73,8 @@ def run_rt(program: Program, rt: str) -> tuple[int, bytes]:
         stderr=subprocess.STDOUT,
     )
     try:
-        said = follow(child.stdout.fileno(), program)
+        with child.stdout as source:
+            said = follow(source.fileno(), program)
         return child.wait(), said
     except BaseException:
         child.terminate()

@@ -38,7 +38,7 @@ def entry(wanted: str) -> list[str]:
     inside = False
     for line in lines():
         if line.startswith("## "):
-            inside = heading(line)[0] == wanted
+            inside = heading(line)[0] == wanted != ""
             line = line[3:]
         if inside and line.strip():
             found.append(line)

@@ -1,0 +1,153 @@
+"""What the commands print, as far as no program is needed for it."""
+
+import os
+import unittest
+from unittest import mock
+
+from front import answers, commands, listing, show, streams, words, write
+from front.tests.test_words import PROBLEM, REFUSED, SOLVED, deck_of
+
+SHOWN = """\
+card 1: solved; accepted
+  problem  mu        398600.4418 km^3/s^2
+           position  7000 0 0 km
+           velocity  0 7.5 1 km/s
+           time      3600 s
+           limit     20
+  answer   x         0.5
+           position  1 2 3 km
+           velocity  4 5 6 km/s
+
+card 2: refused; rejected with 23: a spare is not 0
+  problem  mu        398600.4418 km^3/s^2
+           position  7000 0 0 km
+           velocity  0 7.5 1 km/s
+           time      3600 s
+           limit     20
+           spare     9
+  answer   refusal   8: beyond the far end
+           spare     7
+
+2 cards: 1 solved, 0 refused, 1 rejected
+"""
+
+
+class Show(unittest.TestCase):
+    """The text of cards."""
+
+    def test_two_cards(self):
+        said = listing.Listing(None, [("solved", 0), ("refused", 23)], [1, 0, 1])
+        self.assertEqual(show.shown(words.cards(deck_of(SOLVED, REFUSED)), said), SHOWN)
+
+    def test_no_cards(self):
+        text = show.shown([], listing.Listing(None, [], [0, 0, 0]))
+        self.assertEqual(text, "0 cards: 0 solved, 0 refused, 0 rejected\n")
+
+    def test_numbers_that_are_none(self):
+        (card,) = words.cards(deck_of(SOLVED))
+        card.numbers[1:4] = [words.NAN, words.SIGN | words.INFINITY, words.NAN + 1]
+        self.assertIn(("position", "nan -inf 0x7ff8000000000001 km"), show.problem_fields(card))
+
+    def test_the_listing_of_another_deck(self):
+        said = listing.Listing(None, [("refused", 0)], [0, 1, 0])
+        with self.assertRaisesRegex(streams.Stop, "not this deck's"):
+            show.cards_of(deck_of(SOLVED), said)
+
+
+class Ran(unittest.TestCase):
+    """Commands from their words to their status; what they print and say is kept."""
+
+    def setUp(self):
+        self.written = b""
+        for name, stand_in in (("write", self.keep), ("plug", lambda: None), ("catch_signals", lambda command: None)):
+            patch = mock.patch.object(streams, name, stand_in)
+            patch.start()
+            self.addCleanup(patch.stop)
+
+    def keep(self, descriptor, data):
+        self.written += f"{descriptor} ".encode() + data
+
+    def run_with(self, output, *texts):
+        """The status of a command whose program prints `output`."""
+        with mock.patch("front.built.ready", return_value=["program"]), mock.patch(
+            "front.kit.output_of", return_value=output
+        ):
+            return commands.main(list(texts))
+
+    def test_write(self):
+        refused = (2, PROBLEM + bytes(4) + b"\10" + bytes(7))
+        out = deck_of(SOLVED, refused)
+        with mock.patch("front.problems.read", return_value=[PROBLEM, PROBLEM]):
+            self.assertEqual(self.run_with(out, "write", "-", "-"), 1)
+        self.assertTrue(self.written.startswith(b"1 " + out))
+        self.assertIn(b"tailfiddle: 2 cards written: 1 solved, 1 refused\n", self.written)
+        self.assertIn(b"tailfiddle: 1 refused with 8: beyond the far end; './tailfiddle why 8'", self.written)
+
+    def test_write_all_solved(self):
+        with mock.patch("front.problems.read", return_value=[PROBLEM]):
+            self.assertEqual(self.run_with(deck_of(SOLVED), "write", "-", "-"), 0)
+        self.assertTrue(self.written.endswith(b"tailfiddle: 1 card written: 1 solved, 0 refused\n"))
+
+    def test_write_is_refused(self):
+        with mock.patch("front.problems.read", return_value=[PROBLEM] * 257):
+            self.assertEqual(self.run_with(b"deck 40\n", "write", "-", "-"), 1)
+        self.assertRegex(self.written, rb"^2 tailfiddle: nothing is written: the deck is refused with 40: ")
+
+    def test_write_with_a_program_that_fails(self):
+        good = deck_of(SOLVED)
+        for output in (b"", b"deck", b"deck 4", good[:-1], good + b"x", deck_of()):
+            with self.subTest(output), mock.patch("front.problems.read", return_value=[PROBLEM]):
+                self.written = b""
+                self.assertEqual(self.run_with(output, "write", "-", "-"), 2)
+                self.assertRegex(self.written, rb"^2 tailfiddle: the program write_deck wrote .*\n$")
+
+    def test_wrong_usage(self):
+        commands_of_all = "write", "write a", "write a b c", "show", "show a b", "show --problems", "check", "check a b"
+        for command in (*commands_of_all, "why 1 2", "why x", "root", "root x", "turn 1", "predict - -", "nothing"):
+            with self.subTest(command):
+                self.written = b""
+                self.assertEqual(commands.main(command.split()), 2)
+                self.assertRegex(self.written, rb"^2 tailfiddle: .*\n$")
+
+    def test_a_deck_that_is_refused_is_not_shown(self):
+        with open(os.devnull, "rb") as empty, mock.patch.object(streams, "open_input", return_value=empty.fileno()):
+            for more in ([], ["--problems"]):
+                self.written = b""
+                self.assertEqual(self.run_with(b"deck 30\n", "show", "-", *more), 1)
+                self.assertRegex(self.written, rb"^2 tailfiddle: the deck is refused with 30: no whole header; .*\n$")
+
+
+class Answers(unittest.TestCase):
+    """What stands below a program's line, and how lines are passed on."""
+
+    def test_rows(self):
+        one = "3ff0000000000000"
+        line = f"solved 5 {one} {one} {one} {one} {one} {one} {one}"
+        rows = [line, "  guesses   5", "  x         1", "  position  1 1 1", "  velocity  1 1 1"]
+        self.assertEqual(answers.explained("predict", line), rows)
+        turned = [rows[0].replace("5", "0", 1), "  angle     1", *rows[3:]]
+        self.assertEqual(answers.explained("turn", turned[0]), turned)
+        bracket = f"refused 10 1 {one} 4034000000000000"
+        rows = [bracket, "  reason    the limit is reached", "  guesses   1", "  bracket   1 to 20"]
+        self.assertEqual(answers.explained("predict", bracket), rows)
+        self.assertEqual(answers.explained("root", f"root {one}"), [f"root {one} 1"])
+        self.assertEqual(answers.explained("root", "refused 13"), ["refused 13"])
+
+    def test_other_lines_are_counted(self):
+        self.assertEqual(answers.others(b""), 0)
+        self.assertEqual(answers.others(b"solved 1\nroot 2\n"), 0)
+        self.assertEqual(answers.others(b"refused 1 0\nsolved 1\nshort\nsolvedx\nunsolved root \n"), 4)
+
+    def test_lines_are_passed_on_whole(self):
+        passed = []
+        blocks = [b"solved 1\nref", b"used 7", b" 0\n", b"\n", b"solved 2\nsol"]
+        with mock.patch.object(streams, "blocks", return_value=iter(blocks)), mock.patch.object(
+            streams, "write", lambda descriptor, data: passed.append(data)
+        ):
+            self.assertEqual(answers.pass_lines(3), (2, b"sol"))
+        self.assertEqual(b"".join(passed), b"solved 1\nrefused 7 0\n\nsolved 2\n")
+        self.assertEqual(passed[0], b"solved 1\n")
+
+
+if __name__ == "__main__":
+    unittest.main()
