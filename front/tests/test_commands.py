@@ -15,7 +15,7 @@ card 1: solved; accepted
            time      3600 s
            limit     20
   answer   x         0.5
-           position  1 2 3 km
+           position  0.1 2 3 km
            velocity  4 5 6 km/s
 
 card 2: refused; rejected with 23: a spare is not 0

@@ -45,6 +45,13 @@ class Reading(unittest.TestCase):
             with self.subTest(length), self.assertRaises(ValueError):
                 listing.read(b"deck 31\n"[:length])
 
+    def test_what_follows_is_refused(self):
+        for more in (b"x", b"\n", b"card 1 solved 0\n"):
+            with self.subTest(more), self.assertRaises(ValueError):
+                listing.read(WHOLE + more)
+            with self.subTest(more), self.assertRaises(ValueError):
+                listing.read(b"deck 31\n" + more)
+
     def test_each_missing_line_is_refused(self):
         lines = WHOLE.splitlines(True)
         for place in range(len(lines)):

@@ -128,7 +128,7 @@ def deck_of(*bodies):
 
 
 PROBLEM = struct.pack("<8dI", 398600.4418, 7000, 0, 0, 0, 7.5, 1, 3600, 20)
-SOLVED = (1, PROBLEM + struct.pack("<I7d", 0, 0.5, 1, 2, 3, 4, 5, 6))
+SOLVED = (1, PROBLEM + struct.pack("<I7d", 0, 0.5, 0.1, 2, 3, 4, 5, 6))
 REFUSED = (2, PROBLEM + struct.pack("<III", 9, 8, 7))
 
 
@@ -139,7 +139,7 @@ class Decks(unittest.TestCase):
         (card,) = words.cards(deck_of(SOLVED))
         self.assertEqual((card.kind, card.limit, card.spares), ("solved", 20, [0]))
         self.assertEqual([words.value_of(word) for word in card.numbers], [398600.4418, 7000, 0, 0, 0, 7.5, 1, 3600])
-        self.assertEqual([words.value_of(word) for word in card.answer], [0.5, 1, 2, 3, 4, 5, 6])
+        self.assertEqual([words.value_of(word) for word in card.answer], [0.5, 0.1, 2, 3, 4, 5, 6])
 
     def test_a_refused_card(self):
         _, card = words.cards(deck_of(SOLVED, REFUSED))
