@@ -26,6 +26,10 @@ def main(words: list[str]) -> int:
         return 2
     except KeyboardInterrupt:
         return interrupted()
+    except Exception as fault:
+        # What nobody has thought of is no refusal either.
+        streams.say(f"{type(fault).__name__}: {fault}")
+        return 2
 
 
 def run(words: list[str]) -> int:

@@ -95,14 +95,16 @@ class Running:
 
     def stop(self) -> None:
         """Ends both at once."""
-        for process in (self.program, self.feeder):
-            os.kill(process, signal.SIGKILL)
+        os.kill(self.program, signal.SIGKILL)
         self.end()
 
     def end(self) -> tuple[bool, bool]:
         """Waits for both. Whether the program ended well, and whether it was given all its input."""
         os.close(self.output)
         ended = os.waitpid(self.program, 0)[1] == 0
+        if not ended:
+            # Nobody takes the input any more, and more of it may be long in coming.
+            os.kill(self.feeder, signal.SIGKILL)
         return ended, os.waitpid(self.feeder, 0)[1] == 0
 
 

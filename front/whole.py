@@ -16,10 +16,10 @@ def save(path: str, data: bytes) -> None:
 
     A link is followed. What is there and is no plain file, a device or a pipe, can't be replaced: it
     is written to."""
-    path = os.path.realpath(path)
     if os.path.exists(path) and not os.path.isfile(path):
         write_to(path, data, os.O_WRONLY)
         return
+    path = os.path.realpath(path)
     folder = os.path.dirname(path)
     beside = os.path.join(folder, f".tailfiddle-{os.urandom(8).hex()}")
     try:

@@ -109,6 +109,11 @@ class Ran(unittest.TestCase):
                 self.assertEqual(commands.main(command.split()), 2)
                 self.assertRegex(self.written, rb"^2 tailfiddle: .*\n$")
 
+    def test_a_fault_is_no_refusal(self):
+        with mock.patch("front.why.run", side_effect=RuntimeError("odd")):
+            self.assertEqual(commands.main(["why"]), 2)
+        self.assertEqual(self.written, b"2 tailfiddle: RuntimeError: odd\n")
+
     def test_a_deck_that_is_refused_is_not_shown(self):
         with open(os.devnull, "rb") as empty, mock.patch.object(streams, "open_input", return_value=empty.fileno()):
             for more in ([], ["--problems"]):
