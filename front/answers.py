@@ -7,8 +7,7 @@ line is `solved` or `root`, else 1.
 
 from __future__ import annotations
 
-from front import built, page, streams, words
-from front.kit import Running
+from front import built, kit, page, streams, words
 from front.streams import Stop
 
 
@@ -38,14 +37,15 @@ def given(command: str, count: int, texts: list[str]) -> None:
 
 def answer_record(command: str, name: str, record: bytes) -> int:
     """The program's lines, with what is added for people."""
-    running = Running(built.ready(name), [record], quiet=True)
+    program = built.ready(name)
+    running = kit.Running(program, [record], quiet=True)
     output = b"".join(streams.blocks(running.output))
     ended, _ = running.end()
     *lines, cut = output.decode("ascii", "replace").split("\n")
     shown = "".join(f"{row}\n" for line in lines for row in explained(command, line))
     streams.show(shown, unwritten(command))
     if cut or not ended:
-        raise Stop(failed(name))
+        raise kit.failed(program)
     return 1 if others(output) else 0
 
 
@@ -98,7 +98,8 @@ def decimal(digits: str) -> str:
 
 def answer_input(command: str, name: str, source: int) -> int:
     """The program's lines for what comes in, as it is."""
-    running = Running(built.ready(name), streams.blocks(source), quiet=True)
+    program = built.ready(name)
+    running = kit.Running(program, streams.blocks(source), quiet=True)
     try:
         other, cut = pass_lines(running.output)
     except OSError:
@@ -106,7 +107,7 @@ def answer_input(command: str, name: str, source: int) -> int:
         raise Stop(unwritten(command)) from None
     ended, fed = running.end()
     if cut or not ended:
-        raise Stop(failed(name))
+        raise kit.failed(program)
     if not fed:
         raise Stop(f"{command}: standard input was not read to its end; what was printed is not all")
     return 1 if other else 0
@@ -134,8 +135,3 @@ def others(lines: bytes) -> int:
 def unwritten(command: str) -> str:
     """What is said where lines can't be written."""
     return f"{command}: the lines could not be written; what was printed is not all"
-
-
-def failed(name: str) -> str:
-    """What is said where a program fails, or its last line is cut off."""
-    return f"the program {name} did not end as it should"

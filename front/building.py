@@ -9,8 +9,11 @@ import subprocess
 import time
 
 from front import streams
-from front.built import CRATES, QUIET, Program
+from front.built import CRATES, Program
 from front.streams import Stop
+
+# How long rt has to be quiet, in seconds, before it is said what it proves.
+QUIET = 0.3
 
 
 def build(program: Program, rt: str) -> None:

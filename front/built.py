@@ -10,16 +10,13 @@ from __future__ import annotations
 
 import os
 
-from front import kit, streams
-from front.kit import TOP
+from front import TOP, kit
 from front.streams import Stop
 
 LISTED = "crates.txt"
 CRATES = "crates"
 NO_SOURCES = ("must-fail", "stdout")
 LETTERS = frozenset("abcdefghijklmnopqrstuvwxyz0123456789_")
-# How long rt has to be quiet, in seconds, before it is said what it proves.
-QUIET = 0.3
 
 
 def ready(name: str, top: str = TOP) -> list[str]:

@@ -17,7 +17,6 @@ TYPE_CHECKING = False
 if TYPE_CHECKING:
     from typing import Iterable
 
-TOP = os.path.dirname(os.path.dirname(os.path.realpath(__file__)))
 LOADER = os.path.join("lib", "ld-linux-x86-64.so.2")
 EMULATOR = os.path.join("bin", "qemu-x86_64")
 
@@ -138,8 +137,13 @@ def output_of(command: list[str], data: bytes) -> bytes:
     running = Running(command, [data], quiet=False)
     output = b"".join(streams.blocks(running.output))
     if not running.end()[0]:
-        raise Stop(f"the program {os.path.basename(command[-1])} did not end as it should")
+        raise failed(command)
     return output
+
+
+def failed(command: list[str]) -> Stop:
+    """What is said where a program fails, or its last line is cut off."""
+    return Stop(f"the program {os.path.basename(command[-1])} did not end as it should")
 
 
 def main() -> int:

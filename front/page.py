@@ -8,9 +8,9 @@ from __future__ import annotations
 
 import os
 
-from front import streams
+from front import TOP, streams
 
-PAGE = os.path.join(os.path.dirname(os.path.dirname(os.path.realpath(__file__))), "docs", "REFUSALS.md")
+PAGE = os.path.join(TOP, "docs", "REFUSALS.md")
 
 
 def lines() -> list[str]:

@@ -66,9 +66,8 @@ def shown(cards: list[words.Card], said: Listing) -> str:
     """All cards, and the totals."""
     texts = [card_text(place, card, said.cards[place - 1][1]) for place, card in enumerate(cards, 1)]
     solved, refused, rejected = said.totals
-    plural = "" if len(cards) == 1 else "s"
-    totals = f"{len(cards)} card{plural}: {solved} solved, {refused} refused, {rejected} rejected\n"
-    return "\n".join([*texts, totals])
+    count = streams.counted(len(cards), "card")
+    return "\n".join([*texts, f"{count}: {solved} solved, {refused} refused, {rejected} rejected\n"])
 
 
 def card_text(place: int, card: words.Card, verdict: int) -> str:

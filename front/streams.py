@@ -44,6 +44,11 @@ def say(text: str) -> None:
         pass
 
 
+def counted(count: int, noun: str) -> str:
+    """So many of them, in words: '1 card', '2 cards'."""
+    return f"{count} {noun}" + ("" if count == 1 else "s")
+
+
 def write(descriptor: int, data: bytes) -> None:
     """Writes all of it; OSError where that fails."""
     rest = memoryview(data)

@@ -78,9 +78,8 @@ def put(out: str, deck: bytes) -> None:
 def say_what(cards: list[words.Card]) -> int:
     """Says how many cards are solved and refused, and why those are. The status."""
     refusals = [card.refusal for card in cards if card.kind == "refused"]
-    plural = "" if len(cards) == 1 else "s"
     solved = len(cards) - len(refusals)
-    streams.say(f"{len(cards)} card{plural} written: {solved} solved, {len(refusals)} refused")
+    streams.say(f"{streams.counted(len(cards), 'card')} written: {solved} solved, {len(refusals)} refused")
     for number in sorted(set(refusals)):
         streams.say(f"{refusals.count(number)} refused with {page.explained(number)}")
     return 1 if refusals else 0
