@@ -4,7 +4,8 @@ import os
 import sys
 
 if sys.version_info < (3, 9):
-    sys.stderr.write("tailfiddle: Python 3.9 or later is needed, and %s is %d.%d\n" % ((sys.executable,) + sys.version_info[:2]))
+    found = (sys.executable,) + sys.version_info[:2]
+    sys.stderr.write("tailfiddle: Python 3.9 or later is needed, and %s is %d.%d\n" % found)
     sys.exit(2)
 
 sys.path.insert(0, os.path.dirname(os.path.dirname(os.path.realpath(__file__))))

@@ -4,7 +4,7 @@ import os
 import unittest
 from unittest import mock
 
-from front import answers, commands, listing, show, streams, words, write
+from front import answers, commands, listing, show, streams, words
 from front.tests.test_words import PROBLEM, REFUSED, SOLVED, deck_of
 
 SHOWN = """\
