@@ -2,11 +2,13 @@
 use mathlib.Core.Path.{_≡_, refl, sym, ap, _∙_}
 use mathlib.Core.List.{List}
 use Prim.Native.Nat.{ℕ, _≤_, _<_}
-use borrow.Author.Tests.{le-leb, lt-leb}
+use borrow.Author.Tests.{leb-true, le-leb, lt-leb}
+use lib.Dec.{leb}
 use lib.ListN.{length}
 use Rattle.pieces.specs.Pieces.{Put}
 use Rattle.pieces.proofs.Puts.{stands}
 use Rattle.rows.specs.Rows.{Checked, pass, refuse, must, onward}
+use Rattle.rows.proofs.Laws.{pass-once, test-passed, rows-passed}
 use Rattle.card.specs.Fields.{Card}
 use Rattle.contents.specs.Contents.{mostCards}
 use Rattle.layout.specs.Layout.{deckOf}
@@ -38,3 +40,11 @@ pub deck-writes : {m : Checked (List Card)} {cards : List Card} {buffer after : 
     → Gives m buffer (pass (length (deckOf cards))) after
 unfolding lengthFor bufferAfter deckFor onward must
 deck-writes {cards = cards} {buffer = buffer} e h p = rw (e, le-leb (length (deckOf cards)) (length buffer) h) (refl, stands p h)
+
+-- a deck that is written has room
+pub has-room : (m : Checked (List Card)) (room : ℕ) (deck : List ℕ) → deckFor m room ≡ pass deck → length deck ≤ room
+unfolding deckFor
+has-room m room deck h =
+    let P = rows-passed m _ h in
+    let T = test-passed (leb (length (deckOf (P .0))) room) 41 (pass (deckOf (P .0))) (P .2) in
+    rw (pass-once (T .1)) at (leb-true (length (deckOf (P .0))) room (T .0))

@@ -13,6 +13,7 @@ use Rattle.verdict.specs.Verdict.{verdictOn}
 use Rattle.deck.specs.declared.Totals.{Totals}
 use Rattle.deck.specs.Tally.{Residuals, absent, known, tallyOf}
 use Rattle.deck.specs.Check.{verdictsOf}
+use Rattle.reply.specs.Reply.{refusedLine}
 
 -- The listing 2: the card's kind and its verdict's number
 abbrev pub kindWord : Kind → List ℕ
@@ -48,10 +49,7 @@ acceptedLines cards =
     let tally = tallyOf (verdictsOf cards) in
     joined (cardLines 1 cards ∷ totalsLine (tally .0) ∷ residualLines (tally .1) ∷ [])
 
--- The listing 5: a refused deck
-abbrev pub refusedLine : ℕ → List ℕ
-refusedLine k = joined (text "deck" ∷ count k ∷ text "\n" ∷ [])
-
+-- The listing 5: a refused deck has one line
 abbrev pub linesFor : Checked (List Card) → List ℕ
 linesFor (pass cards) = acceptedLines cards
 linesFor (refuse k) = refusedLine k

@@ -47,7 +47,7 @@ fn write(deck: &[u8], page: &mut [u8]) -> usize
 {
     let mut verdicts = [0u32; CARDS];
     match deck::check(deck, &mut verdicts) {
-        Answer::Refused(why) => refused(why.number(), page),
+        Answer::Refused(why) => reply::refused(why.number(), page),
         Answer::Accepted(totals, residuals) => {
             let count = totals.solved + totals.refused + totals.rejected;
             let shown = cards(deck, &verdicts, count, page);
@@ -55,15 +55,6 @@ fn write(deck: &[u8], page: &mut [u8]) -> usize
             residual_lines(residuals, page, totalled)
         }
     }
-}
-
-// `deck NUMBER`.
-fn refused(number: u32, page: &mut [u8]) -> usize
-    ensures { λ r. ⌜ Put (now (page .entry)) 0 (listing.refusedLine number) (now (page .exit)) r ⌝ }
-{
-    let mut end = pieces::put(page, 0, b"deck");
-    end = text::count(page, end, number);
-    pieces::put(page, end, b"\n")
 }
 
 // A line for each card of an accepted deck, which has no card without a kind.

@@ -1,5 +1,5 @@
 -- The cards that problems make: RULES, Writing a deck 1. Definitions only.
-use Prim.Native.Nat.{ℕ, zero, suc, _/_, _%_}
+use Prim.Native.Nat.{ℕ, zero, suc, _+_, _*_, _/_, _%_}
 use mathlib.Core.List.{List, [], _∷_, _++_}
 use lib.Dec.{leb, eqb}
 use lib.ListN.{length, take, drop}
@@ -36,3 +36,7 @@ wordsIn given = valueAt 8 given 0 ∷ valueAt 8 given 8 ∷ valueAt 8 given 16 �
 -- the bytes of the problem that a card struct holds
 abbrev pub givenIn : Card → List ℕ
 givenIn c = wordsBytes (c .given) ++ bytesOf 4 (c .problem .limit)
+
+-- Writing a deck 7: what is read of problems: one more than a deck may have
+abbrev pub readOfProblems : ℕ
+readOfProblems = problemSize * (mostCards + 1)

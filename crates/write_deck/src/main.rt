@@ -1,25 +1,37 @@
-// Writes a deck: reads problems from standard input.
-use layout::Written;
+// Writes a deck: reads problems of 68 bytes from standard input and writes the deck of their cards.
+ghost use mathlib.Core.Path.{_≡_};
+ghost use Prim.Native.Nat.{_≤_};
+ghost use lib.ListN.{length};
+ghost use Rattle.io.specs.Counts.{Counts};
+ghost use Rattle.reply.specs.Reply.{replyOf};
+ghost use Rattle.problems.specs.Problems.{problemCards, readOfProblems};
 
-// 257 problems: what is behind them changes nothing.
+// The bytes of 257 problems: a deck has at most 256, and what is behind one more changes nothing.
 const MOST: usize = 17476;
 
+// The bytes of the largest deck.
+const ROOM: usize = 35848;
+
 fn main() {
-    let mut space = [0u8; MOST];
-    let got = stdio::read(&mut space, MOST);
-    let mut deck = [0u8; 35848];
-    match problems::write(&space[..got], &mut deck) {
-        Written::Deck(size) => {
-            stdio::write(&deck[..size]);
-        }
-        Written::Refused(why) => refused(why.number()),
-    }
+    let mut space = io::large_buffer();
+    let got = read(&mut space, MOST);
+    let mut page = [0u8; ROOM];
+    let answer = problems::write(&space[..got], &mut page);
+    let end = reply::reply(answer, &mut page);
+    write(&space[..got], &page[..end]);
 }
 
-fn refused(number: u32) {
-    let mut page = [0u8; 16];
-    let mut end = pieces::put(&mut page, 0, b"deck");
-    end = text::count(&mut page, end, number);
-    end = pieces::put(&mut page, end, b"\n");
-    stdio::write(&page[..end]);
+// Reads as much as can change the reply.
+fn read(space: &mut [u8], most: usize) -> usize
+    requires { ⌜ (most ≡ readOfProblems) × (most ≤ length (now space)) ⌝ }
+    ensures { λ r. ⌜ Counts r (now (space .exit)) ⌝ }
+{
+    stdio::read(space, most)
+}
+
+// Writes what is the reply to these problems.
+fn write(given: &[u8], made: &[u8])
+    requires { ⌜ now made ≡ replyOf (problemCards (now given)) ⌝ }
+{
+    stdio::write(made);
 }

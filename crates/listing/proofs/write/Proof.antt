@@ -7,7 +7,7 @@ use native.Mathlib.Omega.{arith}
 use borrow.Author.Needs.{needs}
 use lib.ListN.{replicate}
 use Rattle.pieces.specs.Pieces.{joined}
-use Rattle.pieces.proofs.Puts.{puts, last, renamed}
+use Rattle.pieces.proofs.Puts.{puts, last, renamed, wrote}
 use Rattle.rows.specs.Rows.{refuse}
 use Rattle.contents.specs.Contents.{cardsOf}
 use Rattle.contents.specs.Said.{reasonNumber}
@@ -16,7 +16,8 @@ use Rattle.deck.specs.Tally.{Residuals}
 use Rattle.deck.specs.Said.{told, said}
 use Rattle.deck.specs.Check.{listAfter}
 use Rattle.deck.proofs.Accepted.{Answered, answered, refused-contents}
-use Rattle.listing.specs.Listing.{cardLines, totalsLine, residualLines, refusedLine, linesFor, listingOf}
+use Rattle.reply.specs.Reply.{refusedLine}
+use Rattle.listing.specs.Listing.{cardLines, totalsLine, residualLines, linesFor, listingOf}
 use Rattle.listing.specs.Judged.{Judged}
 use Rattle.listing.proofs.write.Statement.{statement}
 use Rattle.listing.proofs.write.Tie as tie
@@ -52,7 +53,7 @@ returns c =
     let w = c .before .before .before .before .before .before in
     let deck = w .before .before .before .before .before .before .before .args .deck .now in
     let contents = refused-contents deck 256 (reasonNumber (w .why .given .0 .0)) (omega arith) (sym (w .before .before .before .check .ensures .0) ∙ ap said (w .why .given .1)) in
-    renamed (ap refusedLine (c .before .before .before .before .number .ensures) ∙ only-line deck contents) (c .before .before .refused .ensures)
+    renamed (ap refusedLine (c .before .before .before .before .number .ensures) ∙ only-line deck contents) (wrote (c .before .before .refused .ensures))
 
 returns-2 : tie.Need-returns-2
 returns-2 c =
