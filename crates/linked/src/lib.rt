@@ -1,19 +1,22 @@
-// Prediction and check as functions that a C program links: `rt staticlib linked`.
+// Prediction, check and writing as functions that a C program links: `rt staticlib linked`.
 //
 // What is asked and answered is bytes and single numbers, so that a caller in C needs no layout of
-// ours. A slice is a pointer and a length. Both functions are proved and total, and the crate assumes
+// ours. A slice is a pointer and a length. All functions are proved and total, and the crate assumes
 // nothing.
 use conic::Outcome;
 use conic::State;
 use deck::Answer;
 use deck::Residuals;
+use layout::Written;
 ghost use mathlib.Core.Path.{_≡_};
 ghost use lib.ListN.{length};
 ghost use Rattle.card.specs.Fields.{problemOf};
 ghost use Rattle.kepler.specs.Kepler.{keplerOf};
 ghost use Rattle.deck.specs.Said as deck;
 ghost use Rattle.deck.specs.Check.{answerOf, listAfter};
-ghost use Rattle.linked.specs.Linked.{outcomeNumber, stateSum, sumAfter, minusNumber, meanIn};
+ghost use Rattle.layout.specs.Written.{lengthFor, bufferAfter};
+ghost use Rattle.problems.specs.Problems.{problemCards};
+ghost use Rattle.linked.specs.Linked.{outcomeNumber, stateSum, sumAfter, minusNumber, meanIn, refusalNumber, sizeAfter};
 
 // Kepler on the problem with which the bytes begin. Where it is solved the answer is 0, and `sum`
 // becomes x + rx + ry + rz + vx + vy + vz; else the refusal's number, and `sum` stays as it was lent.
@@ -40,6 +43,24 @@ pub extern "C" fn tailfiddle_check(deck: &[u8], verdicts: &mut [u32]) -> f64
     ensures { λ r. ⌜ now (verdicts .exit) ≡ listAfter (now (deck .entry)) (now (verdicts .entry)) ⌝ }
 {
     mean_in(deck::check(deck, verdicts))
+}
+
+// Writes the deck of these problems, of 68 bytes each, at the front of the buffer. Where it is written
+// the answer is 0, and `size` becomes the deck's length; else the refusal's number, and buffer and
+// `size` stay as they were lent.
+#[no_mangle]
+pub extern "C" fn tailfiddle_write(problems: &[u8], buffer: &mut [u8], size: &mut usize) -> u32
+    ensures { λ r. ⌜ r ≡ refusalNumber (lengthFor (problemCards (now (problems .entry))) (length (now (buffer .entry)))) ⌝ }
+    ensures { λ _. ⌜ now (buffer .exit) ≡ bufferAfter (problemCards (now (problems .entry))) (now (buffer .entry)) ⌝ }
+    ensures { λ _. ⌜ now (size .exit) ≡ sizeAfter (lengthFor (problemCards (now (problems .entry))) (length (now (buffer .entry)))) (now (size .entry)) ⌝ }
+{
+    match problems::write(problems, buffer) {
+        Written::Deck(length) => {
+            *size = length;
+            0
+        }
+        Written::Refused(why) => why.number(),
+    }
 }
 
 fn state_sum(x: f64, state: State) -> f64
