@@ -1,4 +1,5 @@
 mod Given
 mod Answering
 pub mod Made
+pub mod Theorems
 pub mod Fixed
