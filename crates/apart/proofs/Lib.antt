@@ -1,2 +1,5 @@
 mod Walking
 mod Turns
+pub mod Taking
+pub mod Theorems
+pub mod Fixed

@@ -47,10 +47,11 @@ fn measured(deck: &[u8], places: usize, room: usize) -> Apart
         Contents::Refused(why) => Apart::Refused(why),
         Contents::Cards(count) => {
             let size = summed(deck, count);
-            if (places < count as usize) | (room < size) {
-                return Apart::Refused(Reason::NoRoom);
+            if ((count as usize) <= places) & (size <= room) {
+                Apart::Cards(count, size)
+            } else {
+                Apart::Refused(Reason::NoRoom)
             }
-            Apart::Cards(count, size)
         }
     }
 }

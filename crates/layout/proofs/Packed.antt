@@ -8,7 +8,7 @@ use Prim.Native.Nat.{ℕ, suc, _+_, _≤_, _<_}
 use native.Mathlib.Omega.{arith}
 use borrow.Author.Tests.{eqb-true, leb-true, le-leb, lt-leb, ne-eqb}
 use lib.Dec.{eqb, leb}
-use lib.ListN.{length, take, drop, length-append, drop-of-length-le, take-append-drop}
+use lib.ListN.{length, take, drop, length-append, length-map, drop-of-length-le, take-append-drop}
 use lib.Seq.{length-take-le, take-at, drop-at}
 use Rattle.rows.specs.Rows.{Checked, pass, refuse, must, onward}
 use Rattle.rows.proofs.Laws.{pass-once, test-passed, rows-passed}
@@ -19,6 +19,10 @@ use Rattle.card.proofs.Packed.{length-body, length-fields, fields-back}
 use Rattle.layout.specs.Packed.{kindsOf, fieldsOf, packedCard, packedCards, cleared}
 use Rattle.layout.proofs.Sizes.{AllSized}
 use Rattle.layout.proofs.KindNumbers.{kind-of-number, number-of-kind}
+
+-- as many kinds as cards
+pub length-kinds : (cards : List Card) → length (kindsOf cards) ≡ length cards
+length-kinds cards = length-map cards (λ (c : Card). kindNumber (c .kind))
 
 -- kinds and fields of one more card stand behind those of the others
 pub kinds-behind : (cards : List Card) (c : Card) → kindsOf (cards ++ (c ∷ [])) ≡ kindsOf cards ++ (kindNumber (c .kind) ∷ [])

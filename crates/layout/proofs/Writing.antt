@@ -24,6 +24,12 @@ pub few-enough : (kinds fields : List ℕ) → length kinds ≤ mostCards → fi
 unfolding finishedCards must
 few-enough kinds fields h = rw (le-leb (length kinds) mostCards h) refl
 
+pub finished-means : (kinds fields : List ℕ) {cards : List Card} → finishedCards kinds fields ≡ pass cards → (length kinds ≤ mostCards) × (packedCards kinds fields ≡ pass cards)
+unfolding finishedCards
+finished-means kinds fields h =
+    let T = test-passed (leb (length kinds) mostCards) 40 (packedCards kinds fields) h in
+    (leb-true (length kinds) mostCards (T .0), T .1)
+
 -- an answer, and the buffer with it
 abbrev pub Gives : Checked (List Card) → (buffer : List ℕ) → Checked ℕ → (after : List ℕ) → Type 0
 Gives m buffer answer after = (answer ≡ lengthFor m (length buffer)) × (after ≡ bufferAfter m buffer)
