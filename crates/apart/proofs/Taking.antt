@@ -1,20 +1,24 @@
--- What taking apart comes to: the deck's refusal, 41, or the cards of an accepted deck for which both lists have room. What is refused leaves a
--- list as it was, and what is taken stands at its front.
+-- What taking apart comes to: the deck's refusal, 41, or the cards of an accepted deck for which both lists have room, as lists of 256 places
+-- and 124 * 256 bytes have for any deck. What is refused leaves a list as it was, and what is taken stands at its front.
 use mathlib.Core.Path.{_≡_, refl, sym, ap, ap₂, subst, _∙_}
 use mathlib.Core.Bool.{Bool, true, false, _&&_, true≢false}
-use mathlib.Core.List.{List}
-use Prim.Native.Nat.{ℕ, _≤_}
+use mathlib.Core.List.{List, _++_}
+use Prim.Native.Nat.{ℕ, _*_, _≤_}
+use native.Mathlib.Omega.{arith}
 use borrow.Author.Tests.{leb-true, le-leb}
 use lib.Dec.{leb}
-use lib.ListN.{length}
+use lib.ListN.{length, drop, length-append}
+use lib.Seq.{length-take-le, take-append-seam}
 use Rattle.pieces.specs.Pieces.{Put}
-use Rattle.pieces.proofs.Puts.{stands}
+use Rattle.pieces.proofs.Puts.{InFront, stands}
 use Rattle.rows.specs.Rows.{Checked, pass, refuse, must, onward}
 use Rattle.rows.proofs.Laws.{pass-once, test-passed, rows-passed, row-refused}
 use Rattle.card.specs.Fields.{Card}
-use Rattle.contents.specs.Contents.{countOf, cardsOf, counting}
+use Rattle.contents.specs.Contents.{mostCards, countOf, cardsOf, counting}
 use Rattle.contents.proofs.Sizes.{few-cards}
 use Rattle.layout.specs.Packed.{fieldsOf}
+use Rattle.layout.proofs.Sizes.{fields-most}
+use Rattle.layout.proofs.WriteBack.{cards-sized}
 use Rattle.apart.specs.Apart.{apartOf, sizesOf, withTaken}
 
 -- contents that pass the tests have so many cards
@@ -35,9 +39,13 @@ both false b e = absurd (true≢false cc)
 module _ (deck : List ℕ) (places room : ℕ) where
   -- ---- the sizes
 
+  cards-refused : {k : ℕ} → cardsOf deck ≡ refuse k → apartOf deck places room ≡ refuse k
+  unfolding apartOf onward
+  cards-refused e = rw e refl
+
   pub deck-refused : {k : ℕ} → cardsOf deck ≡ refuse k → refuse k ≡ sizesOf (apartOf deck places room)
-  unfolding apartOf sizesOf onward
-  deck-refused e = rw e refl
+  unfolding sizesOf onward
+  deck-refused e = rw (cards-refused e) refl
 
   -- what the test of both lists leads to
   abbrev tested : Bool → List Card → Checked (ℕ × ℕ)
@@ -80,20 +88,32 @@ module _ (deck : List ℕ) (places room : ℕ) where
       subst Fits (pass-once (T .1)) (record { are = D .1; places-enough = leb-true (length (D .0)) places (tests .0); room-enough = leb-true (length (fieldsOf (D .0))) room (tests .1) })
 
   -- sizes that were told are those of the cards
-  pub record Taken (count : ℕ) : Type 0 where
+  pub record Taken (count size : ℕ) : Type 0 where
     pub cards : List Card
     pub taken : apartOf deck places room ≡ pass cards
     pub fits : Fits cards
     pub as-many : length cards ≡ count
+    pub as-long : length (fieldsOf cards) ≡ size
     pub accepted : counting (countOf deck) (cardsOf deck) ≡ pass count
 
-  pub taken-apart : {count size : ℕ} → pass (count, size) ≡ sizesOf (apartOf deck places room) → Taken count
+  pub taken-apart : {count size : ℕ} → pass (count, size) ≡ sizesOf (apartOf deck places room) → Taken count size
   unfolding sizesOf onward
   taken-apart {count} {size} e =
       let S = rows-passed (apartOf deck places room) (λ cards. pass (length cards, length (fieldsOf cards))) (sym e) in
       let fits = apart-means (S .1) in
       let as-many : length (S .0) ≡ count = ap (λ (sizes : ℕ × ℕ). sizes .0) (pass-once (S .2)) in
-      record { cards = S .0; taken = S .1; fits = fits; as-many = as-many; accepted = rw (fits .are) (ap pass (sym (few-cards deck (S .0) (fits .are) .0) ∙ as-many)) }
+      let as-long : length (fieldsOf (S .0)) ≡ size = ap (λ (sizes : ℕ × ℕ). sizes .1) (pass-once (S .2)) in
+      record { cards = S .0; taken = S .1; fits = fits; as-many = as-many; as-long = as-long; accepted = rw (fits .are) (ap pass (sym (few-cards deck (S .0) (fits .are) .0) ∙ as-many)) }
+
+-- lists with room for any deck take no test
+pub room-for-any : (deck : List ℕ) (places room : ℕ) → mostCards ≤ places → 124 * mostCards ≤ room → apartOf deck places room ≡ cardsOf deck
+room-for-any deck places room p r = go (cardsOf deck) refl
+  where
+    go : (m : Checked (List Card)) → cardsOf deck ≡ m → apartOf deck places room ≡ m
+    go (refuse k) e = cards-refused deck places room e
+    go (pass cards) e =
+        let sized = cards-sized deck cards e in
+        apart-passes deck places room (record { are = e; places-enough = omega (arith, sized .0); room-enough = omega (arith, fields-most cards (sized .1), sized .0) })
 
 -- ---- the lists
 
@@ -102,3 +122,10 @@ kept taken list e = rw e refl
 
 pub filled : (taken : List Card → List ℕ) {m : Checked (List Card)} {cards : List Card} {list after : List ℕ} {end : ℕ} → m ≡ pass cards → Put list 0 (taken cards) after end → length (taken cards) ≤ length list → after ≡ withTaken taken m list
 filled taken e p h = rw e (stands p h)
+
+pub in-front : (taken : List Card → List ℕ) {m : Checked (List Card)} {cards : List Card} (list : List ℕ) {after : List ℕ} {end : ℕ} → m ≡ pass cards → after ≡ withTaken taken m list → length (taken cards) ≡ end → InFront (taken cards) after end
+in-front taken {cards = cards} list {after} {end} e a n =
+    let rest = drop (length (taken cards)) list in
+    let stands : after ≡ taken cards ++ rest = a ∙ rw e refl in
+    let there : end ≤ length after = rw (← n, stands, length-append (taken cards) rest) (omega arith) in
+    record { within = there; long = sym (length-take-le end after there); is = rw (← n, stands) (take-append-seam (taken cards) rest) }

@@ -1,5 +1,5 @@
 -- `apart::list_kinds` meets its contract: after each turn, the kinds of the cards that were met stand at the front of the list.
-use mathlib.Core.Path.{_≡_, sym, ap, _∙_}
+use mathlib.Core.Path.{sym, ap, _∙_}
 use Prim.Native.Nat.{_-_}
 use native.Mathlib.Omega.{arith}
 use borrow.Author.Needs.{needs}

@@ -1,14 +1,12 @@
 -- `apart::put_fields` meets its contract: the problem, then the answer that stands behind the spare.
-use mathlib.Core.Path.{_≡_, sym, ap, _∙_}
-use mathlib.Core.List.{List}
-use Prim.Native.Nat.{ℕ, _+_, _-_, _≤_}
+use mathlib.Core.Path.{_≡_, sym, ap}
+use Prim.Native.Nat.{ℕ, _+_, _-_}
 use native.Mathlib.Omega.{arith}
 use borrow.Author.Needs.{needs}
-use lib.ListN.{length, take, drop}
+use lib.ListN.{take, drop}
 use lib.Seq.{length-take-le}
 use Rattle.pieces.proofs.Puts.{puts, renamed, wrote}
-use Rattle.card.specs.declared.Kind.{Kind}
-use Rattle.card.specs.Fields.{problemSize, answerSize, sizeOf, packedSize}
+use Rattle.card.specs.Fields.{problemSize, answerSize}
 use Rattle.card.proofs.Packed.{answer-inside, packed-most}
 use Rattle.apart.proofs.put_fields.Statement.{statement}
 use Rattle.apart.proofs.put_fields.Tie as tie

@@ -1,6 +1,6 @@
 -- `apart::summed` meets its contract: after each turn, the sum is that of the cards that were met. No card is without a kind, since the deck is
 -- accepted.
-use mathlib.Core.Path.{_≡_, sym, ap, _∙_}
+use mathlib.Core.Path.{sym, ap, _∙_}
 use Prim.Native.Nat.{_-_}
 use native.Mathlib.Omega.{arith}
 use borrow.Author.Needs.{needs}

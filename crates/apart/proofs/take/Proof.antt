@@ -22,7 +22,7 @@ returns c =
 told : (c : tie.After-known-told) → pass (c .before .sizes .given .0 .0, c .before .sizes .given .0 .1 .0) ≡ sizesOf (apartOf (c .before .before .before .before .before .before .before .args .deck .now) (length (c .before .before .before .before .before .before .before .args .kinds .now)) (length (c .before .before .before .before .before .before .before .args .fields .now)))
 told c = sym (ap said (c .before .sizes .given .1)) ∙ c .before .before .before .measured .ensures
 
-made : (c : tie.After-known-told) → Taken (c .before .before .before .before .before .before .before .args .deck .now) (length (c .before .before .before .before .before .before .before .args .kinds .now)) (length (c .before .before .before .before .before .before .before .args .fields .now)) (c .before .sizes .given .0 .0)
+made : (c : tie.After-known-told) → Taken (c .before .before .before .before .before .before .before .args .deck .now) (length (c .before .before .before .before .before .before .before .args .kinds .now)) (length (c .before .before .before .before .before .before .before .args .fields .now)) (c .before .sizes .given .0 .0) (c .before .sizes .given .0 .1 .0)
 made c = taken-apart (c .before .before .before .before .before .before .before .args .deck .now) (length (c .before .before .before .before .before .before .before .args .kinds .now)) (length (c .before .before .before .before .before .before .before .args .fields .now)) (told c)
 
 list-kinds-requires : tie.Need-list-kinds-requires

@@ -1,0 +1,3 @@
+mod Copying
+pub mod Theorems
+pub mod Fixed
