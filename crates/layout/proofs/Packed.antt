@@ -124,8 +124,3 @@ packed-back (c ∷ cards) w =
     let inside : s ≤ length (here ++ fieldsOf cards) = rw (length-append here (fieldsOf cards)) (omega (arith, long)) in
     and-card (kindNumber (c .kind)) (kindsOf cards) (here ++ fieldsOf cards) (c .kind) (kind-of-number (c .kind)) inside
     ∙ rw (take-at here (fieldsOf cards) s long, drop-at here (fieldsOf cards) s long, packed-back cards (w .1)) refl
-
--- as many kinds as cards
-pub kinds-as-many : (cards : List Card) → length (kindsOf cards) ≡ length cards
-kinds-as-many [] = refl
-kinds-as-many (c ∷ cards) = ap suc (kinds-as-many cards)

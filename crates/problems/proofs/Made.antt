@@ -15,7 +15,7 @@ use Rattle.card.proofs.Packed.{made-size, made-body}
 use Rattle.contents.specs.Contents.{mostCards}
 use Rattle.layout.specs.Packed.{kindsOf, fieldsOf, finishedCards, cleared}
 use Rattle.layout.proofs.Sizes.{AllSized}
-use Rattle.layout.proofs.Packed.{kinds-as-many, packed-back}
+use Rattle.layout.proofs.Packed.{length-kinds, packed-back}
 use Rattle.layout.proofs.Writing.{few-enough}
 use Rattle.problems.specs.Problems.{cardOf, cardsFor, problemCards}
 
@@ -74,7 +74,7 @@ pub finished : (problems : List ℕ) → length problems / problemSize ≤ mostC
 finished problems h e kinds fields k f =
     let n : ℕ = length problems / problemSize in
     let cards = cardsFor n problems in
-    let few : length (kindsOf cards) ≤ mostCards = rw (kinds-as-many cards, as-many n problems) h in
+    let few : length (kindsOf cards) ≤ mostCards = rw (length-kinds cards, as-many n problems) h in
     ap₂ finishedCards k f
     ∙ few-enough (kindsOf cards) (fieldsOf cards) few
     ∙ packed-back cards (sized problems)

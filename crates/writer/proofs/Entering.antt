@@ -20,7 +20,7 @@ use Rattle.contents.specs.Contents.{entryAt}
 use Rattle.layout.specs.Layout.{entryFor, entriesFrom}
 use Rattle.layout.specs.Packed.{kindsOf}
 use Rattle.layout.proofs.KindNumbers.{kind-of-number}
-use Rattle.layout.proofs.Packed.{kinds-as-many}
+use Rattle.layout.proofs.Packed.{length-kinds}
 
 -- of cards with these kinds, those whose entries are still to come
 record Left (cards : List Card) (kinds before : List ℕ) (start : ℕ) (buffer : List ℕ) (offset end i : ℕ) : Type 0 where
@@ -42,7 +42,7 @@ begin kinds buffer start h = record {
   left = λ cards e. record {
     rest = cards;
     kinds-left = e;
-    to-come = λ after stop p. renamed (ap (λ (n : ℕ). entriesFrom (entryAt n) cards) (sym (ap length e) ∙ kinds-as-many cards)) p;
+    to-come = λ after stop p. renamed (ap (λ (n : ℕ). entriesFrom (entryAt n) cards) (sym (ap length e) ∙ length-kinds cards)) p;
   };
 }
 
@@ -98,5 +98,5 @@ module _ {kinds before : List ℕ} {start : ℕ} {buffer : List ℕ} {offset end
   unfolding entriesFrom
   entered h cards e =
       let l = s .left cards e in
-      let ended : l .rest ≡ [] = drop-of-length-le (l .rest) {i = 0} (omega (arith, sym (kinds-as-many (l .rest)) ∙ ap length (l .kinds-left ∙ drop-of-length-le kinds h))) in
+      let ended : l .rest ≡ [] = drop-of-length-le (l .rest) {i = 0} (omega (arith, sym (length-kinds (l .rest)) ∙ ap length (l .kinds-left ∙ drop-of-length-le kinds h))) in
       l .to-come buffer end (renamed (sym (ap (entriesFrom offset) ended)) (none (s .inside)))

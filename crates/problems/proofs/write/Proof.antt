@@ -14,7 +14,7 @@ use Rattle.contents.specs.Contents.{mostCards}
 use Rattle.layout.specs.Packed.{kindsOf, fieldsOf, finishedCards}
 use Rattle.layout.specs.Written.{lengthFor, bufferAfter}
 use Rattle.layout.proofs.Sizes.{fields-most}
-use Rattle.layout.proofs.Packed.{kinds-as-many}
+use Rattle.layout.proofs.Packed.{length-kinds}
 use Rattle.layout.proofs.Writing.{refused-writes}
 use Rattle.problems.specs.Problems.{cardsFor, problemCards}
 use Rattle.problems.proofs.Made.{as-many, sized, too-many, ends-inside, finished}
@@ -26,7 +26,7 @@ kinds-there : (problems : List ℕ) {kinds : List ℕ} → length problems / pro
     → take (length problems / problemSize) kinds ≡ kindsOf (cardsFor (length problems / problemSize) problems)
 kinds-there problems h p =
     let n : ℕ = length problems / problemSize in
-    front p (omega (arith, kinds-as-many (cardsFor n problems), as-many n problems, length-replicate {A = ℕ} 256 0)) .1
+    front p (omega (arith, length-kinds (cardsFor n problems), as-many n problems, length-replicate {A = ℕ} 256 0)) .1
 
 fields-there : (problems : List ℕ) {fields : List ℕ} {end : ℕ} → length problems / problemSize ≤ mostCards → Put (replicate 31744 0) 0 (fieldsOf (cardsFor (length problems / problemSize) problems)) fields end
     → take end fields ≡ fieldsOf (cardsFor (length problems / problemSize) problems)
