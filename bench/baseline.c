@@ -335,20 +335,10 @@ uint32_t NAMED(predict)(const uint8_t *problem, double *sum)
     return 0;
 }
 
-int NAMED(card)(const uint8_t *problem, uint8_t *body)
-{
-    Problem p = problem_of(problem);
-    Outcome out = kepler(&p);
-    if (out.refusal)
-        return 0;
-    __builtin_memset(body, 0, SOLVED_SIZE);
-    __builtin_memcpy(body, problem, PROBLEM_SIZE);
-    __builtin_memcpy(body + 72, &out.x, sizeof out.x);
-    __builtin_memcpy(body + 80, &out.state, sizeof out.state);
-    return 1;
-}
-
 /* ---- the deck */
+
+/* Where entry i stands; behind the last entry the bodies begin. */
+static size_t entry_at(size_t i) { return 8 + 12 * i; }
 
 /* The verdict on a solved card, and its residual |T - t|. */
 static uint32_t judge_solved(const uint8_t *body, double *residual)
@@ -411,14 +401,14 @@ static int deck_refusal(const uint8_t *deck, size_t length, size_t room)
     uint32_t count = half(deck + 4);
     if (count > MOST_CARDS)
         return 32;
-    size_t at = 8 + 12 * (size_t)count;
+    size_t at = entry_at(count);
     if (length < at)
         return 33;
     for (uint32_t i = 0; i < count; i++) {
-        int refusal = entry_refusal(deck + 8 + 12 * i, at, length);
+        int refusal = entry_refusal(deck + entry_at(i), at, length);
         if (refusal)
             return refusal;
-        at += half(deck + 8 + 12 * i + 8);
+        at += half(deck + entry_at(i) + 8);
     }
     if (at != length)
         return 38;
@@ -441,10 +431,10 @@ double NAMED(check)(const uint8_t *deck, size_t length, uint32_t *verdicts, size
     if (refusal)
         return -refusal;
     uint32_t count = half(deck + 4);
-    const uint8_t *body = deck + 8 + 12 * count;
+    const uint8_t *body = deck + entry_at(count);
     Tally tally = { 0 };
     for (uint32_t i = 0; i < count; i++) {
-        int solved = half(deck + 8 + 12 * i) == 1;
+        int solved = half(deck + entry_at(i)) == 1;
         double residual = 0;
         verdicts[i] = solved ? judge_solved(body, &residual) : judge_refused(body);
         if (verdicts[i] != 0)
@@ -456,4 +446,63 @@ double NAMED(check)(const uint8_t *deck, size_t length, uint32_t *verdicts, size
         body += solved ? SOLVED_SIZE : REFUSED_SIZE;
     }
     return tally.solved ? tally.sum / tally.solved : 0.0 / 0.0;
+}
+
+/* ---- writing a deck */
+
+static void put_half(uint8_t *at, uint32_t w) { __builtin_memcpy(at, &w, sizeof w); }
+
+static size_t body_size(const Outcome *out) { return out->refusal ? REFUSED_SIZE : SOLVED_SIZE; }
+
+static void put_entry(const Outcome *out, size_t at, uint8_t *fields)
+{
+    put_half(fields, out->refusal ? 2 : 1);
+    put_half(fields + 4, at);
+    put_half(fields + 8, body_size(out));
+}
+
+static void put_body(const uint8_t *problem, const Outcome *out, uint8_t *body)
+{
+    __builtin_memcpy(body, problem, PROBLEM_SIZE);
+    put_half(body + 68, 0);
+    if (out->refusal) {
+        put_half(body + 72, out->refusal);
+        put_half(body + 76, 0);
+        return;
+    }
+    __builtin_memcpy(body + 72, &out->x, sizeof out->x);
+    __builtin_memcpy(body + 80, &out->state, sizeof out->state);
+}
+
+static void put_deck(const uint8_t *problems, const Outcome *outcomes, size_t count, uint8_t *deck)
+{
+    size_t at = entry_at(count);
+    put_half(deck, 1);
+    put_half(deck + 4, count);
+    for (size_t i = 0; i < count; i++) {
+        put_entry(&outcomes[i], at, deck + entry_at(i));
+        put_body(problems + i * PROBLEM_SIZE, &outcomes[i], deck + at);
+        at += body_size(&outcomes[i]);
+    }
+}
+
+/* How long the deck is depends on what is solved: all outcomes are known before a byte is written. */
+uint32_t NAMED(write)(const uint8_t *problems, size_t length, uint8_t *buffer, size_t room, size_t *size)
+{
+    size_t count = length / PROBLEM_SIZE, end = entry_at(count);
+    if (count > MOST_CARDS)
+        return 40;
+    if (length % PROBLEM_SIZE != 0)
+        return 46;
+    Outcome outcomes[MOST_CARDS];
+    for (size_t i = 0; i < count; i++) {
+        Problem p = problem_of(problems + i * PROBLEM_SIZE);
+        outcomes[i] = kepler(&p);
+        end += body_size(&outcomes[i]);
+    }
+    if (room < end)
+        return 41;
+    put_deck(problems, outcomes, count, buffer);
+    *size = end;
+    return 0;
 }

@@ -22,8 +22,10 @@ double tailfiddle_check(const uint8_t *deck, size_t length, uint32_t *verdicts, 
 double digit_check(const uint8_t *deck, size_t length, uint32_t *verdicts, size_t room);
 double hardware_check(const uint8_t *deck, size_t length, uint32_t *verdicts, size_t room);
 
-/* Writes the body of a solved card; 0 where Kepler refuses the problem. */
-int digit_card(const uint8_t *problem, uint8_t *body);
-int hardware_card(const uint8_t *problem, uint8_t *body);
+/* Of problems, one behind the other: 0, with their deck at the buffer's front and its length in *size; or
+ * the refusal's number, and both are left alone. */
+uint32_t tailfiddle_write(const uint8_t *problems, size_t length, uint8_t *buffer, size_t room, size_t *size);
+uint32_t digit_write(const uint8_t *problems, size_t length, uint8_t *buffer, size_t room, size_t *size);
+uint32_t hardware_write(const uint8_t *problems, size_t length, uint8_t *buffer, size_t room, size_t *size);
 
 #endif

@@ -1,6 +1,6 @@
 /* Times the proved functions and the two builds of bench/baseline.c on the same problems and the same
- * deck, and holds their answers to each other bit by bit. Problems come from standard input, and ROUNDS,
- * how often each is timed, from whoever compiles it.
+ * deck, and holds their answers, and the decks that they write, to each other bit by bit. Problems come
+ * from standard input, and ROUNDS, how often each is timed, from whoever compiles it.
  * Status: 0 all agree, 1 a difference, 2 something is missing. */
 #include "timing.h"
 
@@ -9,14 +9,22 @@ void exit(int status) __attribute__((noreturn));
 
 enum { PROBLEMS = 20000, CHECKS = 20 };
 enum { DECK_SIZE = 8 + 12 * MOST_CARDS + SOLVED_SIZE * MOST_CARDS };
-enum { PREDICT, CHECK, KINDS };
+/* The problems of a full deck, and how many such decks the problems make. */
+enum { GROUP_SIZE = MOST_CARDS * PROBLEM_SIZE, GROUPS = PROBLEMS / MOST_CARDS };
+/* GROUPED is predict once more, of the problems that are written and no others. */
+enum { PREDICT, CHECK, GROUPED, WRITE, KINDS };
+/* What every byte of a buffer is, and a size, before a deck is written. */
+enum { BEFORE = 0xa5 };
 
 typedef struct {
     const char *name;
     uint32_t (*predict)(const uint8_t *problem, double *sum);
     double (*check)(const uint8_t *deck, size_t length, uint32_t *verdicts, size_t room);
+    uint32_t (*write)(const uint8_t *problems, size_t length, uint8_t *buffer, size_t room, size_t *size);
     uint32_t refusals[PROBLEMS];
     double sums[PROBLEMS], mean;
+    uint8_t buffer[DECK_SIZE];
+    size_t size;
     double times[KINDS][ROUNDS];
 } Contender;
 
@@ -26,14 +34,15 @@ static uint32_t proved_predict(const uint8_t *problem, double *sum)
 }
 
 static Contender contenders[] = {
-    { .name = "proved", .predict = proved_predict, .check = tailfiddle_check },
-    { .name = "C, digit root", .predict = digit_predict, .check = digit_check },
-    { .name = "C, hardware root", .predict = hardware_predict, .check = hardware_check },
+    { .name = "proved", .predict = proved_predict, .check = tailfiddle_check, .write = tailfiddle_write },
+    { .name = "C, digit root", .predict = digit_predict, .check = digit_check, .write = digit_write },
+    { .name = "C, hardware root", .predict = hardware_predict, .check = hardware_check, .write = hardware_write },
 };
 
 enum { CONTENDERS = sizeof contenders / sizeof contenders[0] };
 
 static uint8_t problems[PROBLEMS * PROBLEM_SIZE];
+static uint8_t chosen[GROUP_SIZE];
 static uint8_t deck[DECK_SIZE];
 
 static void fail(int status, const char *why, size_t number)
@@ -67,42 +76,32 @@ static void read_problems(void)
         fail(2, "20000 problems are wanted, and there are", size / PROBLEM_SIZE);
 }
 
-static void put(size_t at, uint32_t value) { __builtin_memcpy(deck + at, &value, sizeof value); }
-
-static void add_card(size_t place, const uint8_t *body)
-{
-    size_t fields = 8 + 12 * place, at = 8 + 12 * MOST_CARDS + SOLVED_SIZE * place;
-    put(fields, 1);
-    put(fields + 4, at);
-    put(fields + 8, SOLVED_SIZE);
-    __builtin_memcpy(deck + at, body, SOLVED_SIZE);
-}
-
 /* A full deck of the first problems that are solved. Gives how many are solved in all. */
 static size_t make_deck(void)
 {
-    size_t solved = 0;
-    uint8_t body[SOLVED_SIZE];
-    put(0, 1);
-    put(4, MOST_CARDS);
+    size_t solved = 0, size = 0;
+    double sum;
     for (size_t i = 0; i < PROBLEMS; i++) {
-        if (!digit_card(problems + i * PROBLEM_SIZE, body))
+        const uint8_t *problem = problems + i * PROBLEM_SIZE;
+        if (digit_predict(problem, &sum) != 0)
             continue;
         if (solved < MOST_CARDS)
-            add_card(solved, body);
+            __builtin_memcpy(chosen + solved * PROBLEM_SIZE, problem, PROBLEM_SIZE);
         solved++;
     }
     if (solved < MOST_CARDS)
         fail(2, "too few problems are solved:", solved);
+    if (digit_write(chosen, sizeof chosen, deck, sizeof deck, &size) != 0 || size != sizeof deck)
+        fail(1, "the deck of solved cards is of another length:", size);
     return solved;
 }
 
-static double time_predict(Contender *c)
+static double time_predict(Contender *c, size_t count)
 {
     double began = seconds();
-    for (size_t i = 0; i < PROBLEMS; i++)
+    for (size_t i = 0; i < count; i++)
         c->refusals[i] = c->predict(problems + i * PROBLEM_SIZE, &c->sums[i]);
-    return (seconds() - began) / PROBLEMS;
+    return (seconds() - began) / count;
 }
 
 static double time_check(Contender *c)
@@ -119,6 +118,18 @@ static double time_check(Contender *c)
     return took / (CHECKS * MOST_CARDS);
 }
 
+static double time_write(Contender *c)
+{
+    uint32_t refusal = 0;
+    double began = seconds();
+    for (size_t i = 0; i < GROUPS; i++)
+        refusal |= c->write(problems + i * GROUP_SIZE, GROUP_SIZE, c->buffer, sizeof c->buffer, &c->size);
+    double took = seconds() - began;
+    if (refusal != 0)
+        fail(1, "a deck is refused, of so many:", GROUPS);
+    return took / (GROUPS * MOST_CARDS);
+}
+
 static void compare_answers(const Contender *a, const Contender *b)
 {
     for (size_t i = 0; i < PROBLEMS; i++)
@@ -126,6 +137,51 @@ static void compare_answers(const Contender *a, const Contender *b)
             fail(1, "the answers differ at problem", i + 1);
     if (!same(a->mean, b->mean))
         fail(1, "the means differ, of cards in the deck:", MOST_CARDS);
+}
+
+static uint32_t write_anew(Contender *c, const uint8_t *from, size_t length, size_t room)
+{
+    __builtin_memset(c->buffer, BEFORE, sizeof c->buffer);
+    c->size = BEFORE;
+    return c->write(from, length, c->buffer, room, &c->size);
+}
+
+/* The whole buffers are compared: what stands behind a deck is to stay. */
+static void compare_decks(const uint8_t *from, size_t place)
+{
+    const Contender *proved = &contenders[0];
+    for (int k = 0; k < CONTENDERS; k++) {
+        Contender *c = &contenders[k];
+        if (write_anew(c, from, GROUP_SIZE, sizeof c->buffer) != 0)
+            fail(1, "a deck is refused, at place", place);
+        if (c->size != proved->size || __builtin_memcmp(c->buffer, proved->buffer, sizeof c->buffer) != 0)
+            fail(1, "the decks differ at place", place);
+    }
+}
+
+static void try_refusal(const uint8_t *from, size_t length, size_t room, uint32_t number)
+{
+    uint8_t before[DECK_SIZE];
+    __builtin_memset(before, BEFORE, sizeof before);
+    for (int k = 0; k < CONTENDERS; k++) {
+        Contender *c = &contenders[k];
+        if (write_anew(c, from, length, room) != number)
+            fail(1, "problems are not refused with", number);
+        if (c->size != BEFORE || __builtin_memcmp(c->buffer, before, sizeof before) != 0)
+            fail(1, "buffer or size is altered by the refusal", number);
+    }
+}
+
+/* The deck of the chosen problems, at place 0, fills its buffer to the last byte. */
+static void compare_writing(void)
+{
+    compare_decks(chosen, 0);
+    for (size_t i = 0; i < GROUPS; i++)
+        compare_decks(problems + i * GROUP_SIZE, i + 1);
+    try_refusal(problems, GROUP_SIZE + PROBLEM_SIZE, DECK_SIZE, 40);
+    try_refusal(problems, GROUP_SIZE + 1, DECK_SIZE, 46);
+    try_refusal(problems, PROBLEM_SIZE - 1, DECK_SIZE, 46);
+    try_refusal(chosen, GROUP_SIZE, DECK_SIZE - 1, 41);
 }
 
 /* One line for each contender; its ratio is the proved function's time to its own. */
@@ -143,22 +199,43 @@ static void print_times(const char *what, int kind)
     }
 }
 
+static double write_ratio(const Contender *c) { return median(c->times[WRITE], c->times[GROUPED]); }
+
+/* What writing takes beside predicting the same problems: of the proved functions, and of the C. */
+static void print_ratios(void)
+{
+    printf("write / predict %.3f, at most 1.1 is wanted\n", write_ratio(&contenders[0]));
+    for (int k = 1; k < CONTENDERS; k++)
+        printf("  %-18s write / predict %.3f\n", contenders[k].name, write_ratio(&contenders[k]));
+}
+
+static void time_all(int round)
+{
+    for (int k = 0; k < CONTENDERS; k++)
+        contenders[k].times[PREDICT][round] = time_predict(&contenders[k], PROBLEMS);
+    for (int k = 0; k < CONTENDERS; k++)
+        contenders[k].times[CHECK][round] = time_check(&contenders[k]);
+    for (int k = 0; k < CONTENDERS; k++) {
+        contenders[k].times[GROUPED][round] = time_predict(&contenders[k], GROUPS * MOST_CARDS);
+        contenders[k].times[WRITE][round] = time_write(&contenders[k]);
+    }
+}
+
 int main(void)
 {
     read_problems();
     size_t solved = make_deck();
-    for (int round = 0; round < ROUNDS; round++) {
-        for (int k = 0; k < CONTENDERS; k++)
-            contenders[k].times[PREDICT][round] = time_predict(&contenders[k]);
-        for (int k = 0; k < CONTENDERS; k++)
-            contenders[k].times[CHECK][round] = time_check(&contenders[k]);
-    }
+    for (int round = 0; round < ROUNDS; round++)
+        time_all(round);
     for (int k = 1; k < CONTENDERS; k++)
         compare_answers(&contenders[0], &contenders[k]);
-    printf("%d problems, %lu of them solved, and a deck of %d solved cards: the three agree on all\n",
-        PROBLEMS, (unsigned long)solved, MOST_CARDS);
+    compare_writing();
+    printf("%d problems, %lu of them solved, a deck of %d solved cards, %d decks written: the three agree on all\n",
+        PROBLEMS, (unsigned long)solved, MOST_CARDS, GROUPS);
     printf("rounds: %d; each figure is a median\n", ROUNDS);
     print_times("predict, time per problem", PREDICT);
     print_times("check, time per card", CHECK);
+    print_times("write, time per problem, 256 in a deck", WRITE);
+    print_ratios();
     return 0;
 }
