@@ -12,16 +12,16 @@ use Rattle.conic.specs.TimeAndRatio.{timeAt}
 use Rattle.conic.specs.Unfolding.{unfolded, arrivalOf, arrivalAt}
 use Rattle.entry.specs.Entry.{inputsTested, rooted, radiusOf, unitOf, testedBy, scaledBy, scaledOf, farEndOf, bracketedBy, startOf, entryOf}
 use Rattle.kepler.specs.Kepler.{arrivedAt, foundIn, keplerOf}
-use Rattle.words.specs.Words.{value, valueAt, bytesOf}
+use Rattle.words.specs.Words.{value, valueAt, bytesOf, wordsBytes}
 use Rattle.text.specs.Text.{decimal, hex}
-use Rattle.card.specs.Fields.{kindOf, sizeOf, problemOf}
-use Rattle.card.specs.Made.{numbersBytes}
+use Rattle.card.specs.Fields.{kindOf, kindNumber, sizeOf, problemOf}
 use Rattle.contents.specs.Contents.{entryIn, cardsFrom, cardsOf}
+use Rattle.layout.specs.Layout.{entriesFrom, bodiesOf, deckOf}
 use Rattle.verdict.specs.Verdict.{unfoldsTo, atX, solvedCard, refusedCard, verdictOn}
 use Rattle.deck.specs.Tally.{countedAll, residualsOf}
 use Rattle.listing.specs.Listing.{cardLines, listingOf}
 use Rattle.trials.specs.Table.{AllHold, table}
 
 pub all-hold : AllHold table
-unfolding round add sub mul div neg lt le eq ne ofInt ofBits toBits magnitude isNear steps wholeRoot radicand nearestRoot rootOf firstGuess narrowedBy nextGuess hunt searchOf must onward coefficients workedFrom worked functionsAt timeAt unfolded arrivalOf arrivalAt inputsTested rooted radiusOf unitOf testedBy scaledBy scaledOf farEndOf bracketedBy startOf entryOf arrivedAt foundIn keplerOf value valueAt bytesOf numbersBytes kindOf sizeOf problemOf unfoldsTo atX solvedCard refusedCard verdictOn entryIn cardsFrom cardsOf countedAll residualsOf decimal hex cardLines listingOf
+unfolding round add sub mul div neg lt le eq ne ofInt ofBits toBits magnitude isNear steps wholeRoot radicand nearestRoot rootOf firstGuess narrowedBy nextGuess hunt searchOf must onward coefficients workedFrom worked functionsAt timeAt unfolded arrivalOf arrivalAt inputsTested rooted radiusOf unitOf testedBy scaledBy scaledOf farEndOf bracketedBy startOf entryOf arrivedAt foundIn keplerOf value valueAt bytesOf wordsBytes kindOf kindNumber sizeOf problemOf unfoldsTo atX solvedCard refusedCard verdictOn entryIn cardsFrom cardsOf entriesFrom bodiesOf deckOf countedAll residualsOf decimal hex cardLines listingOf
 all-hold = (refl, (refl, (refl, (refl, (refl, (refl, (refl, (refl, (refl, (refl, (refl, (refl, (refl, (refl, (refl, (refl, tt))))))))))))))))

@@ -17,10 +17,11 @@ use Rattle.conic.specs.TimeAndRatio.{ratioAt}
 use Rattle.conic.specs.Unfolding.{stateAt}
 use Rattle.entry.specs.Entry.{sixtyFour, eight, entryOf}
 use Rattle.kepler.specs.Kepler.{keplerOf}
-use Rattle.words.specs.Words.{bytesOf}
-use Rattle.pieces.specs.Pieces.{joined}
 use Rattle.text.specs.Text.{text}
+use Rattle.card.specs.declared.Kind.the-variants as kind
+use Rattle.card.specs.Fields.{Card}
 use Rattle.card.specs.Made.{problemBytes, solvedBody, refusedBody}
+use Rattle.layout.specs.Layout.{deckOf}
 use Rattle.listing.specs.Listing.{listingOf}
 
 -- a trial: what is tried, and what it has to give
@@ -74,23 +75,18 @@ diagonal = vector one one nought
 abbrev across : Float → Vector
 across y = vector nought y nought
 
--- deck A, as under The check program's listing: version 1 and three cards, the first solved, the second refused with 7, the third the first with another position
-abbrev entry : (number offset size : ℕ) → List ℕ
-entry number offset size = joined (bytesOf 4 number ∷ bytesOf 4 offset ∷ bytesOf 4 size ∷ [])
+-- deck A, as under The check program's listing: three cards, the first solved, the second refused with 7, the third the first with another position
+abbrev solvedAt : (position : Vector) → Card
+solvedAt position = record {
+  kind = kind.Solved;
+  body = solvedBody (problemBytes (problem (across one) nought 20)) nought (record { r = position; v = across one });
+}
 
-abbrev solvedAt : (position : Vector) → List ℕ
-solvedAt position = solvedBody (problemBytes (problem (across one) nought 20)) nought (record { r = position; v = across one })
+abbrev refusedWith : ℕ → Card
+refusedWith k = record { kind = kind.Refused; body = refusedBody (problemBytes (problem (vector one nought nought) nought 20)) k }
 
 abbrev deckA : List ℕ
-deckA =
-    joined (
-    bytesOf 4 1 ∷ bytesOf 4 3
-    ∷ entry 1 44 128 ∷ entry 2 172 80 ∷ entry 1 252 128
-    ∷ solvedAt (vector one nought nought)
-    ∷ refusedBody (problemBytes (problem (vector one nought nought) nought 20)) 7
-    ∷ solvedAt (vector (numberOf 0x4000_0000_0000_0000) nought nought)
-    ∷ []
-    )
+deckA = deckOf (solvedAt (vector one nought nought) ∷ refusedWith 7 ∷ solvedAt (vector (numberOf 0x4000_0000_0000_0000) nought nought) ∷ [])
 
 abbrev pub table : List Trial
 table =
