@@ -6,7 +6,7 @@ use lib.Dec.{eqb}
 use lib.Ieee.{Float}
 use Rattle.exact.specs.Numbers.{numberOf}
 use Rattle.words.specs.Words.{valueAt}
-use Rattle.conic.specs.declared.Vector.{Vector}
+use Rattle.vectors.specs.declared.Vector.{Vector}
 use Rattle.conic.specs.declared.Problem.{Problem}
 use Rattle.rows.specs.Rows.{Checked, pass, refuse}
 use Rattle.card.specs.declared.Kind.{Kind}

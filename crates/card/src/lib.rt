@@ -4,7 +4,7 @@
 // What was sent is read as words, and computed with as the numbers that they stand for. Every
 // function here is proved, the public ones are total, and the crate assumes nothing.
 use conic::Problem;
-use conic::Vector;
+use vectors::Vector;
 ghost use mathlib.Core.Path.{_≡_};
 ghost use Prim.Native.Nat.{_≤_};
 ghost use Rattle.card.specs.Fields.{kindOf, kindNumber, sizeOf, packedSize, numberAt, vectorAt, problemOf};

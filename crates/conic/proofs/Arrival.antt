@@ -11,7 +11,7 @@ use Rattle.rows.specs.Rows.{pass, must}
 use Rattle.rows.proofs.Laws.{pass-once, test-passed, Refuses, passes, must-refuses}
 use Rattle.conic.specs.declared.State.{State}
 use Rattle.conic.specs.declared.Scaled.{Scaled}
-use Rattle.conic.specs.Vectors.{allFinite}
+use Rattle.vectors.specs.Vectors.{allFinite}
 use Rattle.conic.specs.TimeAndRatio.{ratioAt}
 use Rattle.conic.specs.Unfolding.{leastRatio, arrivalOf, stateAt, arrivalAt}
 

@@ -9,10 +9,6 @@ use Rattle.conic.proofs.unfolding.arrive_at.Reads as unfolding-arrive-a
 use Rattle.conic.proofs.unfolding.arrive_at.Kinds as unfolding-arrive-at-kinds
 use Rattle.conic.proofs.unfolding.outcome_of.Reads as unfolding-outcome-of
 use Rattle.conic.proofs.unfolding.outcome_of.Kinds as unfolding-outcome-of-kinds
-use Rattle.conic.proofs.vectors.all_finite.Reads as vectors-all-finite
-use Rattle.conic.proofs.vectors.all_finite.Kinds as vectors-all-finite-kinds
-use Rattle.conic.proofs.vectors.scaled.Reads as vectors-scaled
-use Rattle.conic.proofs.vectors.scaled.Kinds as vectors-scaled-kinds
 use Rattle.conic.proofs.Scaled.time_at.Reads as scaled-time-at
 use Rattle.conic.proofs.Scaled.time_at.Kinds as scaled-time-at-kinds
 use Rattle.conic.proofs.Reason.number.Reads as reason-number
@@ -26,12 +22,6 @@ unfolding-arrive-at-fixes κs a x y v w p q = (one-answer arrived-once x y p q, 
 
 pub unfolding-outcome-of-fixes : Fixes 0 unfolding-outcome-of-kinds.ps unfolding-outcome-of-kinds.r unfolding-outcome-of.Learnt
 unfolding-outcome-of-fixes κs a x y v w p q = (one-answer said-once x y p q, refl)
-
-pub vectors-all-finite-fixes : Fixes 0 vectors-all-finite-kinds.ps vectors-all-finite-kinds.r vectors-all-finite.Learnt
-vectors-all-finite-fixes κs a x y v w p q = (one-result p q, refl)
-
-pub vectors-scaled-fixes : Fixes 0 vectors-scaled-kinds.ps vectors-scaled-kinds.r vectors-scaled.Learnt
-vectors-scaled-fixes κs a x y v w p q = (one-result p q, refl)
 
 pub scaled-time-at-fixes : Fixes 0 scaled-time-at-kinds.ps scaled-time-at-kinds.r scaled-time-at.Learnt
 scaled-time-at-fixes κs a x y v w p q = (one-result p q, refl)

@@ -1,4 +1,3 @@
 pub mod Said
-pub mod Vectors
 pub mod TimeAndRatio
 pub mod Unfolding

@@ -5,7 +5,7 @@ use Rattle.exact.specs.Numbers.{_⊕_, _⊖_, _⊗_, _⊘_, numberOf, one}
 use Rattle.conic.specs.declared.State.{State}
 use Rattle.conic.specs.declared.Scaled.{Scaled}
 use Rattle.rows.specs.Rows.{Checked, pass, must}
-use Rattle.conic.specs.Vectors.{allFinite, multiple, combined}
+use Rattle.vectors.specs.Vectors.{allFinite, multiple, combined}
 use Rattle.universal.specs.Functions.{functionsAt}
 use Rattle.conic.specs.TimeAndRatio.{ratioAt}
 

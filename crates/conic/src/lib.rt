@@ -3,18 +3,12 @@
 //
 // Every public function is proved and total: its contract is an equation with a definition of
 // `specs/`, for every input, NaN and infinities included. The crate assumes nothing.
+use vectors::Vector;
 ghost use mathlib.Core.Path.{_≡_};
 ghost use Rattle.conic.specs.Said.{reasonNumber};
 ghost use Rattle.conic.specs.TimeAndRatio.{timeAt};
 
 pub mod unfolding;
-pub mod vectors;
-
-pub struct Vector {
-    pub x: f64,
-    pub y: f64,
-    pub z: f64,
-}
 
 // A position and a velocity.
 pub struct State {

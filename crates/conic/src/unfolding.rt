@@ -4,7 +4,6 @@ use crate::Outcome;
 use crate::Reason;
 use crate::Scaled;
 use crate::State;
-use crate::vectors;
 ghost use mathlib.Core.Path.{_≡_};
 ghost use Rattle.conic.specs.Said.{said, arrived, withState};
 ghost use Rattle.conic.specs.Unfolding.{unfolded, arrivalOf, arrivalAt};

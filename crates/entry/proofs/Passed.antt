@@ -12,11 +12,11 @@ use Rattle.exact.specs.Numbers.{_⊕_, _⊖_, _⊗_, _⊘_, nought, two, isFini
 use Rattle.exact.proofs.Basics.{passed, both}
 use Rattle.search.specs.declared.Bracket.{Bracket}
 use Rattle.search.proofs.Hunt.{pointAt}
-use Rattle.conic.specs.declared.Vector.{Vector}
+use Rattle.vectors.specs.declared.Vector.{Vector}
 use Rattle.conic.specs.declared.Problem.{Problem}
 use Rattle.conic.specs.declared.Scaled.{Scaled}
 use Rattle.rows.specs.Rows.{Checked, pass, must, onward}
-use Rattle.conic.specs.Vectors.{allFinite, multiple}
+use Rattle.vectors.specs.Vectors.{allFinite, multiple}
 use Rattle.conic.specs.TimeAndRatio.{timeAt}
 use Rattle.entry.specs.Entry.{straight, inputsTested, dot, over, radiusOf, unitOf, testedBy, scaledBy, scaledOf, farEndOf, startingBracket, bracketedBy, startOf, entryOf}
 use Rattle.rows.proofs.Laws.{pass-once, test-passed, rows-passed}

@@ -4,7 +4,7 @@ use lib.Ieee.{Float, le}
 use Rattle.exact.specs.Numbers.{magnitude}
 use Rattle.root.specs.Said as root
 use Rattle.root.specs.Root.{rootOf}
-use Rattle.conic.specs.declared.Vector.{Vector}
+use Rattle.vectors.specs.declared.Vector.{Vector}
 use Rattle.conic.specs.declared.Problem.{Problem}
 use Rattle.conic.specs.declared.Scaled.{Scaled}
 use Rattle.entry.specs.Entry.{inputsTested, fromRoot, rooted, radiusOf, unitOf, testedBy, scaledBy, scaledOf, sixtyFourth, farEndOf, bracketedBy, startOf, entryOf}

@@ -8,11 +8,11 @@ use Rattle.root.specs.Said as root
 use Rattle.root.specs.Root.{rootOf}
 use Rattle.search.specs.declared.Point.{Point}
 use Rattle.search.specs.declared.Bracket.{Bracket}
-use Rattle.conic.specs.declared.Vector.{Vector}
+use Rattle.vectors.specs.declared.Vector.{Vector}
 use Rattle.conic.specs.declared.Problem.{Problem}
 use Rattle.conic.specs.declared.Scaled.{Scaled}
 use Rattle.rows.specs.Rows.{Checked, pass, refuse, must, onward}
-use Rattle.conic.specs.Vectors.{allFinite, multiple}
+use Rattle.vectors.specs.Vectors.{allFinite, multiple}
 use Rattle.conic.specs.TimeAndRatio.{timeAt}
 
 -- refusal 1: every number given is finite. The last is the time or the angle.

@@ -7,11 +7,10 @@
 use conic::Problem;
 use conic::Reason;
 use conic::Scaled;
-use conic::Vector;
-use conic::vectors;
 use root::Answer;
 use search::Bracket;
 use search::Point;
+use vectors::Vector;
 ghost use mathlib.Core.Path.{_≡_};
 ghost use Rattle.entry.specs.Said.{passedInputs, passedNumber, passedUnit, passedScaled, passedStart};
 ghost use Rattle.entry.specs.Entry.{givenFinite, inputsTested, isUsable, dot, over, radiusOf, unitOf, testedBy, scaledBy, scaledOf, farEndOf, bracketedBy, startOf, entryOf, angleEntryOf};

@@ -5,7 +5,7 @@ use Rattle.pieces.specs.Pieces.{joined}
 use Rattle.text.specs.Text.{text, count, number}
 use Rattle.root.specs.Said as root
 use Rattle.root.specs.Root.{rootOf}
-use Rattle.conic.specs.declared.Vector.{Vector}
+use Rattle.vectors.specs.declared.Vector.{Vector}
 use Rattle.conic.specs.declared.Problem.{Problem}
 use Rattle.conic.specs.Said as conic
 use Rattle.kepler.specs.Kepler.{keplerOf}

@@ -4,8 +4,8 @@
 // function here is proved and total, and the crate assumes nothing.
 use conic::Outcome;
 use conic::Problem;
-use conic::Vector;
 use root::Answer;
+use vectors::Vector;
 ghost use mathlib.Core.Path.{_≡_};
 ghost use Rattle.pieces.specs.Pieces.{putIn, endIn, Put};
 ghost use Rattle.root.specs.Said as root;

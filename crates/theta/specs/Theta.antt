@@ -2,7 +2,7 @@
 use lib.Ieee.{Float, le}
 use Rattle.exact.specs.Numbers.{_⊕_, _⊖_, _⊗_, _⊘_, numberOf, one, two}
 use Rattle.conic.specs.declared.State.{State}
-use Rattle.conic.specs.declared.Vector.{Vector}
+use Rattle.vectors.specs.declared.Vector.{Vector}
 use Rattle.conic.specs.declared.Scaled.{Scaled}
 use Rattle.rows.specs.Rows.{Checked, must, onward}
 use Rattle.conic.specs.Said.{Said, withState}

@@ -5,10 +5,10 @@
 use conic::Outcome;
 use conic::Reason;
 use conic::Scaled;
-use conic::Vector;
 use conic::unfolding::Arrival;
 use entry::Scaling;
 use root::Answer;
+use vectors::Vector;
 ghost use mathlib.Core.Path.{_≡_};
 ghost use Rattle.conic.specs.Said.{said, arrived};
 ghost use Rattle.theta.specs.Theta.{turnedState, reachedState, thetaOf};

@@ -7,7 +7,7 @@ use Rattle.exact.specs.Numbers.{numberOf, nought, one}
 use Rattle.root.specs.Said as root
 use Rattle.root.specs.Root.{rootOf}
 use Rattle.search.specs.declared.Bracket.{Bracket}
-use Rattle.conic.specs.declared.Vector.{Vector}
+use Rattle.vectors.specs.declared.Vector.{Vector}
 use Rattle.conic.specs.declared.Problem.{Problem}
 use Rattle.conic.specs.declared.Scaled.{Scaled}
 use Rattle.rows.specs.Rows.{pass, onward}

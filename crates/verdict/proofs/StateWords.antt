@@ -10,7 +10,7 @@ use lib.Ieee.Fits.{and-i, and-l, and-r, eq→eqb}
 use Rattle.exact.specs.Numbers.{wordOf}
 use Rattle.exact.proofs.Basics.{both}
 use Rattle.words.specs.Words.{valueAt}
-use Rattle.conic.specs.declared.Vector.{Vector}
+use Rattle.vectors.specs.declared.Vector.{Vector}
 use Rattle.conic.specs.declared.State.{State}
 use Rattle.card.specs.Fields.{positionAt, velocityAt}
 use Rattle.verdict.specs.Verdict.{sameWords, sameState}

@@ -8,7 +8,7 @@ use Rattle.exact.specs.Numbers.{_⊖_, wordOf, isFinite, magnitude, isNear}
 use Rattle.words.specs.Words.{valueAt}
 use Rattle.search.specs.declared.Bracket.{Bracket}
 use Rattle.search.specs.Search.{within}
-use Rattle.conic.specs.declared.Vector.{Vector}
+use Rattle.vectors.specs.declared.Vector.{Vector}
 use Rattle.conic.specs.declared.State.{State}
 use Rattle.conic.specs.declared.Scaled.{Scaled}
 use Rattle.rows.specs.Rows.{Checked, pass, refuse, must, onward}

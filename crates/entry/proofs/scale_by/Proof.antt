@@ -3,7 +3,7 @@ use mathlib.Core.Path.{_≡_, refl, sym, ap, _∙_}
 use borrow.Author.Needs.{needs}
 use borrow.Author.Tests.{not-true, not-false}
 use Rattle.rows.specs.Rows.{must}
-use Rattle.conic.specs.Vectors.{allFinite, multiple}
+use Rattle.vectors.specs.Vectors.{allFinite, multiple}
 use Rattle.entry.specs.Entry.{scaledBy}
 use Rattle.entry.proofs.scale_by.Statement.{statement}
 use Rattle.entry.proofs.scale_by.Tie as tie

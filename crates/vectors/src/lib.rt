@@ -1,7 +1,15 @@
-// Vectors, component by component.
-use crate::Vector;
+// Vectors of three numbers, component by component. docs/RULES.md, From the state to the scaled problem,
+// and Unfolding.
+//
+// Every function here is proved and total, and the crate assumes nothing.
 ghost use mathlib.Core.Path.{_≡_};
-ghost use Rattle.conic.specs.Vectors.{allFinite, multiple, combined};
+ghost use Rattle.vectors.specs.Vectors.{allFinite, multiple, combined};
+
+pub struct Vector {
+    pub x: f64,
+    pub y: f64,
+    pub z: f64,
+}
 
 // Whether no component is NaN or infinite.
 pub fn all_finite(a: Vector) -> bool
@@ -22,7 +30,7 @@ pub fn scaled(by: f64, a: Vector) -> Vector
 }
 
 // a*f + b*g.
-pub(crate) fn sum(a: Vector, f: f64, b: Vector, g: f64) -> Vector
+pub fn sum(a: Vector, f: f64, b: Vector, g: f64) -> Vector
     ensures { λ r. ⌜ r ≡ combined a f b g ⌝ }
 {
     Vector {

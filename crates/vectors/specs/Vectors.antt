@@ -2,7 +2,7 @@
 use mathlib.Core.Bool.{Bool, _&&_}
 use lib.Ieee.{Float}
 use Rattle.exact.specs.Numbers.{_⊕_, _⊗_, isFinite}
-use Rattle.conic.specs.declared.Vector.{Vector}
+use Rattle.vectors.specs.declared.Vector.{Vector}
 
 abbrev pub allFinite : Vector → Bool
 allFinite a = isFinite (a .x) && isFinite (a .y) && isFinite (a .z)
