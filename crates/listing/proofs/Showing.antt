@@ -20,7 +20,8 @@ use Rattle.contents.specs.Contents.{kindAt, cardsOf}
 use Rattle.contents.proofs.Cards.{KindsFrom}
 use Rattle.contents.proofs.Opened.{all-kinds-named}
 use Rattle.deck.specs.Check.{numbersOf}
-use Rattle.listing.specs.Listing.{verdictNumber, placedLine, cardLine, cardLines}
+use Rattle.listed.specs.Listed.{placedLine}
+use Rattle.listing.specs.Listing.{verdictNumber, cardLine, cardLines}
 use Rattle.listing.specs.Judged.{Judged}
 
 pub record Showing (deck list : List ℕ) (count : ℕ) (before page : List ℕ) (i end : ℕ) : Type 0 where

@@ -5,6 +5,7 @@ use Prim.Native.Nat.{_-_}
 use native.Mathlib.Omega.{arith}
 use borrow.Author.Needs.{needs}
 use Rattle.card.specs.Said.{named}
+use Rattle.pieces.proofs.Puts.{wrote}
 use Rattle.listing.proofs.Showing.{Showing, start, never-unknown, place, turn, shown}
 use Rattle.listing.proofs.cards.Statement.{statement}
 use Rattle.listing.proofs.cards.Tie as tie
@@ -34,7 +35,7 @@ loop-again : tie.Need-loop-again Inv-loop μ-loop
 loop-again c =
     let w = c .before .before in
     let k = w .before .before .before .before in
-    turn (k .before .before .before .before .loop .inv) (k .kind .given .0 .0) (k .before .before .before .loop-test .taken) (sym (k .before .before .kind-at .ensures) ∙ ap named (k .kind .given .1)) (w .card-line .ensures)
+    turn (k .before .before .before .before .loop .inv) (k .kind .given .0 .0) (k .before .before .before .loop-test .taken) (sym (k .before .before .kind-at .ensures) ∙ ap named (k .kind .given .1)) (wrote (w .card-line .ensures))
 
 same-length-2 : tie.Need-same-length-2 Inv-loop μ-loop
 same-length-2 c = c .before .loop .inv .as-long

@@ -17,7 +17,8 @@ use Rattle.deck.specs.Said.{told, said}
 use Rattle.deck.specs.Check.{listAfter}
 use Rattle.deck.proofs.Accepted.{Answered, answered, refused-contents}
 use Rattle.reply.specs.Reply.{refusedLine}
-use Rattle.listing.specs.Listing.{cardLines, totalsLine, residualLines, linesFor, listingOf}
+use Rattle.listed.specs.Listed.{totalsLine, residualLines}
+use Rattle.listing.specs.Listing.{cardLines, linesFor, listingOf}
 use Rattle.listing.specs.Judged.{Judged}
 use Rattle.listing.proofs.write.Statement.{statement}
 use Rattle.listing.proofs.write.Tie as tie
@@ -61,7 +62,7 @@ returns-2 c =
     let s2 = s3 .before .before .before .before in
     let s1 = s2 .before .before .before .before in
     let a = accepted (s1 .before .before .before .before .before .before) in
-    renamed (all-lines a) (puts (s1 .cards .ensures (a .cards) (a .cards-are)) (puts (s2 .totals-line .ensures) (last (s3 .residual-lines .ensures))))
+    renamed (all-lines a) (puts (s1 .cards .ensures (a .cards) (a .cards-are)) (puts (wrote (s2 .totals-line .ensures)) (last (wrote (s3 .residual-lines .ensures)))))
 
 pub write-spec : {M : Type 1} → statement M
 write-spec = tie.close (tie.spec (λ c. search needs) (λ c κs. search needs) (λ c. search needs) (λ c κs. search needs) (λ c κs. search needs) (λ c. search needs) add-count add-count-2 (λ c. search needs) cards-requires (λ c κs. search needs) (λ c κs. search needs) (λ c. search needs) returns (λ c. search needs) returns-2)

@@ -1,8 +1,8 @@
--- `listing::totals_line` meets its contract: the seven pieces of the line, one behind the other.
-use Rattle.pieces.proofs.Puts.{puts, last, wrote}
+-- `listed::totals_line` meets its contract: the seven pieces of the line, one behind the other.
+use Rattle.pieces.proofs.Puts.{puts, last, wrote, both}
 use borrow.Author.Needs.{needs}
-use Rattle.listing.proofs.totals_line.Statement.{statement}
-use Rattle.listing.proofs.totals_line.Tie as tie
+use Rattle.listed.proofs.totals_line.Statement.{statement}
+use Rattle.listed.proofs.totals_line.Tie as tie
 
 returns : tie.Need-returns
 returns c =
@@ -13,7 +13,7 @@ returns c =
     let s3 = s4 .before .before .before .before in
     let s2 = s3 .before .before .before .before .before in
     let s1 = s2 .before .before .before .before in
-    puts (wrote (s1 .put .ensures)) (puts (wrote (s2 .count .ensures)) (puts (wrote (s3 .put2 .ensures)) (puts (wrote (s4 .count2 .ensures)) (puts (wrote (s5 .put3 .ensures)) (puts (wrote (s6 .count3 .ensures)) (last (wrote (s7 .put4 .ensures))))))))
+    both (puts (wrote (s1 .put .ensures)) (puts (wrote (s2 .count .ensures)) (puts (wrote (s3 .put2 .ensures)) (puts (wrote (s4 .count2 .ensures)) (puts (wrote (s5 .put3 .ensures)) (puts (wrote (s6 .count3 .ensures)) (last (wrote (s7 .put4 .ensures)))))))))
 
 pub totals-line-spec : {M : Type 1} → statement M
 totals-line-spec = tie.close (tie.spec (λ c. search needs) (λ c κs. search needs) (λ c κs. search needs) (λ c. search needs) (λ c κs. search needs) (λ c κs. search needs) (λ c. search needs) (λ c κs. search needs) (λ c κs. search needs) (λ c. search needs) (λ c κs. search needs) (λ c. search needs) returns)
