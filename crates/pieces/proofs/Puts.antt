@@ -1,4 +1,5 @@
--- Laws of writing into a buffer: pieces one behind the other are one piece, whether or not they fit; and what stands at the front at the end.
+-- Laws of writing into a buffer: pieces one behind the other are one piece, whether or not they fit, and whichever is written first; and what
+-- stands at the front at the end.
 use mathlib.Core.Path.{_≡_, refl, sym, ap, _∙_, subst}
 use mathlib.Core.Bool.{Bool, true, false, cond}
 use mathlib.Core.List.{List, [], _∷_, _++_, append-nil}
@@ -9,7 +10,7 @@ use native.Mathlib.Omega.{arith}
 use borrow.Author.Tests.{leb-true, leb-false, le-leb}
 use lib.Dec.{leb}
 use lib.ListN.{length, take, drop, set, getD, length-append, take-append-drop}
-use lib.Seq.{sets, length-sets, sets-eq, set-out, take-suc, take-length, length-take-le, take-append-seam}
+use lib.Seq.{sets, length-sets, sets-eq, set-out, set-comm, take-suc, take-length, length-take-le, take-append-seam}
 use Rattle.pieces.specs.Pieces.{joined, putIn, endIn, Put, handedIn}
 
 sets-append : (l : List ℕ) (at : ℕ) (s t : List ℕ) → sets l at (s ++ t) ≡ sets (sets l at s) (at + length s) t
@@ -60,6 +61,30 @@ puts {before} {middle} {after} {s} {t} {at} {next} {end} p q =
           ∙ ap (λ (k : ℕ). sets (sets before at s) k t) clamp
           ∙ clamped (sets before at s) (at + length s) t
           ∙ sym (sets-append before at s t);
+    }
+
+-- a set before a run, and a run before a run, may as well come first
+set-first : (l : List ℕ) (i a at : ℕ) (t : List ℕ) → i < at → set (sets l at t) i a ≡ sets (set l i a) at t
+set-first l i a at [] h = refl
+set-first l i a at (b ∷ t) h = set-first (set l at b) i a (suc at) t (omega arith) ∙ ap (λ (k : List ℕ). sets k (suc at) t) (set-comm l at i b a (λ e. omega (arith, e)))
+
+sets-first : (l : List ℕ) (i : ℕ) (s : List ℕ) (at : ℕ) (t : List ℕ) → i + length s ≤ at → sets (sets l at t) i s ≡ sets (sets l i s) at t
+sets-first l i [] at t h = refl
+sets-first l i (a ∷ s) at t h = ap (λ (k : List ℕ). sets k (suc i) s) (set-first l i a at t (omega arith)) ∙ sets-first (set l i a) (suc i) s at t (omega arith)
+
+-- two pieces of which the one behind is written first
+pub under : {before middle after s t : List ℕ} {end stop : ℕ} → Put before (length s) t middle end → Put middle 0 s after stop → Put before 0 (s ++ t) after end
+unfolding putIn endIn
+under {before} {s = s} {t = t} p q =
+    let whole : length s + length t ≡ 0 + length (s ++ t) = omega (arith, length-append s t) in
+    record {
+      ends = p .ends ∙ ap (λ (k : ℕ). min k (length before)) whole;
+      holds =
+          q .holds
+          ∙ ap (λ (l : List ℕ). sets l 0 s) (p .holds)
+          ∙ sets-first before 0 s (length s) t (omega arith)
+          ∙ ap (λ (k : ℕ). sets (sets before 0 s) k t) (sym (zero-add (length s)))
+          ∙ sym (sets-append before 0 s t);
     }
 
 -- a piece for which there is room, written at once
