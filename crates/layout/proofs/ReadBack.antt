@@ -5,7 +5,7 @@ use mathlib.Core.List.{List, [], _∷_, _++_, append-assoc}
 use Prim.Native.Nat.{ℕ, _+_, _-_, _^_, _≤_, _<_}
 use native.Mathlib.Omega.{arith}
 use borrow.Author.Tests.{eq-eqb, le-leb}
-use lib.ListN.{length, take, drop, length-append, length-drop}
+use lib.ListN.{length, take, drop, length-append, length-drop, length-map}
 use lib.Seq.{take-at}
 use Rattle.words.specs.Words.{bytesOf}
 use Rattle.words.proofs.Written.{length-bytes}
@@ -16,7 +16,7 @@ use Rattle.card.specs.declared.Kind.the-variants as kind
 use Rattle.card.specs.Fields.{Card, kindOf, kindNumber, sizeOf}
 use Rattle.card.proofs.Sizes.{size-most}
 use Rattle.contents.specs.Contents.{headerSize, entryAt, theVersion, mostCards, versionOf, countOf, kindAt, offsetAt, lengthAt, entryIn, cardsFrom, cardsOf, largestDeck}
-use Rattle.layout.specs.Layout.{entryFor, entriesFrom, bodiesOf, deckOf}
+use Rattle.layout.specs.Layout.{entryFor, entriesFrom, kindsIn, bodiesOf, deckOf}
 use Rattle.layout.proofs.Sizes.{AllSized, length-entry, length-entries, length-deck, deck-most}
 use Rattle.layout.proofs.KindNumbers.{kind-of-number}
 
@@ -39,7 +39,7 @@ entry-passes deck rest i at kind e inside most =
     rw (kind-is, eq-eqb (lengthAt deck i) (sizeOf kind) length-is, eq-eqb (offsetAt deck i) at offset-is, le-leb (at + sizeOf kind) (length deck) inside) refl
 
 -- where entries and bodies of cards stand, these are the cards
-from-here : (deck rest : List ℕ) (cards : List Card) (i at : ℕ) → drop (entryAt i) deck ≡ entriesFrom at cards ++ rest → drop at deck ≡ bodiesOf cards → at ≤ length deck → length deck ≤ largestDeck → AllSized cards → cardsFrom deck (length cards) i at ≡ pass cards
+from-here : (deck rest : List ℕ) (cards : List Card) (i at : ℕ) → drop (entryAt i) deck ≡ entriesFrom at (kindsIn cards) ++ rest → drop at deck ≡ bodiesOf cards → at ≤ length deck → length deck ≤ largestDeck → AllSized cards → cardsFrom deck (length cards) i at ≡ pass cards
 unfolding entriesFrom bodiesOf cardsFrom must onward
 from-here deck rest [] i at e b within most w =
     let none-left : length deck - at ≡ 0 = sym (length-drop at deck) ∙ ap length b in
@@ -47,27 +47,27 @@ from-here deck rest [] i at e b within most w =
 from-here deck rest (c ∷ cards) i at e b within most w =
     let kind = c .kind in
     let end = at + sizeOf kind in
-    let behind = entriesFrom end cards ++ rest in
-    let there : drop (entryAt i) deck ≡ entryFor kind at ++ behind = e ∙ append-assoc (entryFor kind at) (entriesFrom end cards) rest in
+    let behind = entriesFrom end (kindsIn cards) ++ rest in
+    let there : drop (entryAt i) deck ≡ entryFor kind at ++ behind = e ∙ append-assoc (entryFor kind at) (entriesFrom end (kindsIn cards)) rest in
     let room : length deck - at ≡ sizeOf kind + length (bodiesOf cards) = sym (length-drop at deck) ∙ ap length b ∙ length-append (c .body) (bodiesOf cards) ∙ ap (λ (n : ℕ). n + length (bodiesOf cards)) (w .0) in
     let inside : end ≤ length deck = omega (arith, room, within) in
     let others = from-here deck rest cards (i + 1) end (past deck (entryFor kind at) behind (entryAt i) (entryAt (i + 1)) there (rw (length-entry kind at) (omega arith))) (past deck (c .body) (bodiesOf cards) at end b (ap (λ (n : ℕ). at + n) (w .0))) inside most (w .1) in
     let body-is : take (sizeOf kind) (drop at deck) ≡ c .body = ap (take (sizeOf kind)) b ∙ take-at (c .body) (bodiesOf cards) (sizeOf kind) (w .0) in
     rw (entry-passes deck behind i at kind there inside most, others, body-is) refl
 
-deck-is : (cards : List Card) → drop 0 (deckOf cards) ≡ bytesOf 4 theVersion ++ (bytesOf 4 (length cards) ++ (entriesFrom (entryAt (length cards)) cards ++ bodiesOf cards))
+deck-is : (cards : List Card) → drop 0 (deckOf cards) ≡ bytesOf 4 theVersion ++ (bytesOf 4 (length cards) ++ (entriesFrom (entryAt (length cards)) (kindsIn cards) ++ bodiesOf cards))
 unfolding deckOf
-deck-is cards = refl
+deck-is cards = simp append-assoc refl
 
 pub read-back : (cards : List Card) → length cards ≤ mostCards → AllSized cards → cardsOf (deckOf cards) ≡ pass cards
 unfolding cardsOf must
 read-back cards few w =
     let deck = deckOf cards in
     let n = length cards in
-    let entries = entriesFrom (entryAt n) cards in
+    let entries = entriesFrom (entryAt n) (kindsIn cards) in
     let count-there : drop 4 deck ≡ bytesOf 4 n ++ (entries ++ bodiesOf cards) = past deck (bytesOf 4 theVersion) _ 0 4 (deck-is cards) (rw length-bytes refl) in
     let entries-there : drop (entryAt 0) deck ≡ entries ++ bodiesOf cards = past deck (bytesOf 4 n) _ 4 (entryAt 0) count-there (rw length-bytes refl) in
-    let bodies-there : drop (entryAt n) deck ≡ bodiesOf cards = past deck entries _ (entryAt 0) (entryAt n) entries-there (rw (length-entries (entryAt n) cards) (omega arith)) in
+    let bodies-there : drop (entryAt n) deck ≡ bodiesOf cards = past deck entries _ (entryAt 0) (entryAt n) entries-there (rw (length-entries (entryAt n) (kindsIn cards), length-map cards (λ (c : Card). c .kind)) (omega arith)) in
     let version-is : versionOf deck ≡ theVersion = read-there 4 deck _ 0 theVersion (deck-is cards) (omega arith) (omega arith) in
     let count-is : countOf deck ≡ n = read-there 4 deck _ 4 n count-there (omega arith) (omega arith) in
     let long : entryAt n ≤ length deck = omega (arith, length-deck cards) in

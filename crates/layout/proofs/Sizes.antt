@@ -3,7 +3,7 @@ use mathlib.Core.Path.{_≡_, refl, ap, _∙_}
 use mathlib.Core.List.{List, [], _∷_}
 use Prim.Native.Nat.{ℕ, _+_, _*_, _≤_}
 use native.Mathlib.Omega.{arith}
-use lib.ListN.{length, length-append}
+use lib.ListN.{length, length-append, length-map}
 use Rattle.words.proofs.Written.{length-bytes}
 use Rattle.card.specs.declared.Kind.{Kind}
 use Rattle.card.specs.Fields.{Card, sizeOf}
@@ -11,7 +11,7 @@ use Rattle.card.specs.Made.{fieldsIn}
 use Rattle.card.proofs.Sizes.{size-most}
 use Rattle.card.proofs.Packed.{length-fields, packed-most}
 use Rattle.contents.specs.Contents.{entrySize, entryAt, mostCards, largestDeck}
-use Rattle.layout.specs.Layout.{entryFor, entriesFrom, bodiesOf, deckOf}
+use Rattle.layout.specs.Layout.{entryFor, entriesFrom, contentsOf, kindsIn, bodiesOf, deckOf}
 use Rattle.layout.specs.Packed.{fieldsOf}
 
 -- each body has the size of its kind
@@ -22,14 +22,17 @@ AllSized (c ∷ cards) = (length (c .body) ≡ sizeOf (c .kind)) × AllSized car
 pub length-entry : (kind : Kind) (at : ℕ) → length (entryFor kind at) ≡ entrySize
 length-entry kind at = simp (length-append, length-bytes)
 
-pub length-entries : (at : ℕ) (cards : List Card) → length (entriesFrom at cards) ≡ entrySize * length cards
+pub length-entries : (at : ℕ) (kinds : List Kind) → length (entriesFrom at kinds) ≡ entrySize * length kinds
 unfolding entriesFrom
 length-entries at [] = refl
-length-entries at (c ∷ cards) = length-append (entryFor (c .kind) at) _ ∙ ap (λ (n : ℕ). n + length (entriesFrom (at + sizeOf (c .kind)) cards)) (length-entry (c .kind) at) ∙ rw (length-entries (at + sizeOf (c .kind)) cards) (omega arith)
+length-entries at (kind ∷ kinds) = length-append (entryFor kind at) _ ∙ ap (λ (n : ℕ). n + length (entriesFrom (at + sizeOf kind) kinds)) (length-entry kind at) ∙ rw (length-entries (at + sizeOf kind) kinds) (omega arith)
+
+pub length-contents : (cards : List Card) → length (contentsOf (length cards) (kindsIn cards)) ≡ entryAt (length cards)
+length-contents cards = simp (length-append, length-bytes, length-entries (entryAt (length cards)) (kindsIn cards), length-map cards (λ (c : Card). c .kind)) (omega arith)
 
 pub length-deck : (cards : List Card) → length (deckOf cards) ≡ entryAt (length cards) + length (bodiesOf cards)
 unfolding deckOf
-length-deck cards = simp (length-append, length-bytes, length-entries (entryAt (length cards)) cards) (omega arith)
+length-deck cards = length-append (contentsOf (length cards) (kindsIn cards)) (bodiesOf cards) ∙ ap (λ (n : ℕ). n + length (bodiesOf cards)) (length-contents cards)
 
 -- no more than the largest deck's
 bodies-most : (cards : List Card) → AllSized cards → length (bodiesOf cards) ≤ 128 * length cards

@@ -18,7 +18,7 @@ use Rattle.contents.specs.Contents.{entryAt, theVersion, mostCards, countOf, en
 use Rattle.contents.proofs.Cards.{entry-means, entry-inside, one-more, no-more}
 use Rattle.contents.proofs.Opened.{opened-to}
 use Rattle.contents.proofs.Sizes.{few-cards}
-use Rattle.layout.specs.Layout.{entryFor, entriesFrom, bodiesOf, deckOf}
+use Rattle.layout.specs.Layout.{entryFor, entriesFrom, kindsIn, bodiesOf, deckOf}
 use Rattle.layout.proofs.Sizes.{AllSized}
 use Rattle.layout.proofs.KindNumbers.{number-of-kind}
 
@@ -47,7 +47,7 @@ entry-stands deck i at kind b inside h =
     let length-stands = number-stands 4 deck (entryAt i + 8) (entryAt (i + 1)) (sizeOf kind) b (omega arith) inside (m .length-is) in
     rw (kind-stands, offset-stands, length-stands) (simp append-assoc refl)
 
-entries-stand : (deck : List ℕ) (left i at : ℕ) (cards : List Card) → Bytes deck → entryAt (i + left) ≤ length deck → cardsFrom deck left i at ≡ pass cards → drop (entryAt i) deck ≡ entriesFrom at cards ++ drop (entryAt (i + left)) deck
+entries-stand : (deck : List ℕ) (left i at : ℕ) (cards : List Card) → Bytes deck → entryAt (i + left) ≤ length deck → cardsFrom deck left i at ≡ pass cards → drop (entryAt i) deck ≡ entriesFrom at (kindsIn cards) ++ drop (entryAt (i + left)) deck
 unfolding entriesFrom
 entries-stand deck zero i at cards b inside h =
     let none : i + 0 ≡ i = omega arith in
@@ -78,4 +78,5 @@ write-back deck cards b h =
     let count-stands = number-stands 4 deck 4 (entryAt 0) n b refl (omega arith) refl in
     let all : 0 + n ≡ n = omega arith in
     let entries = rw all at (entries-stand deck n 0 (entryAt n) cards b (omega arith) from) in
-    rw (few-cards deck cards h .0, ← bodies-stand deck n 0 (entryAt n) cards from, ← entries, ← count-stands) (sym version-stands)
+    simp append-assoc
+    (rw (few-cards deck cards h .0, ← bodies-stand deck n 0 (entryAt n) cards from, ← entries, ← count-stands) (sym version-stands))

@@ -6,7 +6,7 @@ use borrow.Author.Tests.{leb-true, le-leb, lt-leb}
 use lib.Dec.{leb}
 use lib.ListN.{length}
 use Rattle.pieces.specs.Pieces.{Put}
-use Rattle.pieces.proofs.Puts.{stands}
+use Rattle.pieces.proofs.Puts.{front, stands}
 use Rattle.rows.specs.Rows.{Checked, pass, refuse, must, onward}
 use Rattle.rows.proofs.Laws.{pass-once, test-passed, rows-passed}
 use Rattle.card.specs.Fields.{Card}
@@ -43,9 +43,9 @@ unfolding lengthFor bufferAfter deckFor onward must
 no-room-writes {cards = cards} buffer e h = rw (e, lt-leb (length (deckOf cards)) (length buffer) h) (refl, refl)
 
 pub deck-writes : {m : Checked (List Card)} {cards : List Card} {buffer after : List ℕ} {end : ℕ} → m ≡ pass cards → length (deckOf cards) ≤ length buffer → Put buffer 0 (deckOf cards) after end
-    → Gives m buffer (pass (length (deckOf cards))) after
+    → Gives m buffer (pass end) after
 unfolding lengthFor bufferAfter deckFor onward must
-deck-writes {cards = cards} {buffer = buffer} e h p = rw (e, le-leb (length (deckOf cards)) (length buffer) h) (refl, stands p h)
+deck-writes {cards = cards} {buffer = buffer} e h p = rw (e, le-leb (length (deckOf cards)) (length buffer) h) (ap pass (front p h .0), stands p h)
 
 -- a deck that is written has room
 pub has-room : (m : Checked (List Card)) (room : ℕ) (deck : List ℕ) → deckFor m room ≡ pass deck → length deck ≤ room

@@ -1,26 +1,49 @@
 -- The bytes of a deck, from its cards: RULES, The deck. Definitions only.
 use Prim.Native.Nat.{ℕ, _+_}
-use mathlib.Core.List.{List, [], _∷_, _++_}
+use mathlib.Core.Bool.{cond}
+use mathlib.Core.List.{List, [], _∷_, _++_, map}
+use lib.Dec.{leb}
 use lib.ListN.{length}
 use Rattle.words.specs.Words.{bytesOf}
+use Rattle.rows.specs.Rows.{Checked, pass, refuse}
 use Rattle.card.specs.declared.Kind.{Kind}
-use Rattle.card.specs.Fields.{Card, kindNumber, sizeOf}
-use Rattle.contents.specs.Contents.{entryAt, theVersion}
+use Rattle.card.specs.Fields.{Card, kindOf, kindNumber, sizeOf}
+use Rattle.contents.specs.Contents.{entryAt, theVersion, mostCards}
 
 -- The deck 2: the entry of a card whose body stands at index `at`: kind, offset, length
 abbrev pub entryFor : Kind → (at : ℕ) → List ℕ
 entryFor kind at = bytesOf 4 (kindNumber kind) ++ (bytesOf 4 at ++ bytesOf 4 (sizeOf kind))
 
--- The deck 2 and 3: the entries of cards whose bodies stand one behind the other from `at` on
-unfoldable pub entriesFrom : (at : ℕ) → List Card → List ℕ
+-- The deck 2 and 3: the entries of cards of these kinds, whose bodies stand one behind the other from `at` on
+unfoldable pub entriesFrom : (at : ℕ) → List Kind → List ℕ
 entriesFrom at [] = []
-entriesFrom at (c ∷ cards) = entryFor (c .kind) at ++ entriesFrom (at + sizeOf (c .kind)) cards
+entriesFrom at (kind ∷ kinds) = entryFor kind at ++ entriesFrom (at + sizeOf kind) kinds
+
+-- The deck 1 and 2: version, count, entries
+abbrev pub contentsOf : (count : ℕ) → List Kind → List ℕ
+contentsOf count kinds = bytesOf 4 theVersion ++ (bytesOf 4 count ++ entriesFrom (entryAt count) kinds)
 
 -- The deck 3: the bodies, without gaps
 unfoldable pub bodiesOf : List Card → List ℕ
 bodiesOf [] = []
 bodiesOf (c ∷ cards) = c .body ++ bodiesOf cards
 
--- The deck 1 to 3: version, count, entries, bodies
+-- The deck 1 to 3: the contents, then the bodies
+abbrev pub kindsIn : List Card → List Kind
+kindsIn cards = map (λ (c : Card). c .kind) cards
+
 unfoldable pub deckOf : List Card → List ℕ
-deckOf cards = bytesOf 4 theVersion ++ (bytesOf 4 (length cards) ++ (entriesFrom (entryAt (length cards)) cards ++ bodiesOf cards))
+deckOf cards = contentsOf (length cards) (kindsIn cards) ++ bodiesOf cards
+
+-- the kinds that numbers name, up to the first that names none
+abbrev upTo : Checked Kind → List Kind → List Kind
+upTo (pass kind) rest = kind ∷ rest
+upTo (refuse k) rest = []
+
+unfoldable pub namedIn : (numbers : List ℕ) → List Kind
+namedIn [] = []
+namedIn (n ∷ numbers) = upTo (kindOf n) (namedIn numbers)
+
+-- the contents of a deck whose cards have kinds of these numbers; of more than 256 there is no deck, and these are empty
+unfoldable pub contentsFor : (numbers : List ℕ) → List ℕ
+contentsFor numbers = cond (leb (length numbers) mostCards) (contentsOf (length numbers) (namedIn numbers)) []

@@ -1,16 +1,70 @@
 // The one layout of a deck: the bytes of a list of cards, and cards as kinds and fields without spares.
 // docs/RULES.md, The deck and Writing a deck.
 //
-// Definitions and laws, and the answer of every function that writes a deck. The crate assumes nothing.
+// Definitions and laws, the contents as they are written, and the answer of every function that writes
+// a deck. Every function here is proved, the public one is total, and the crate assumes nothing.
+use card::Kind;
+use card::Named;
 use contents::Reason;
+ghost use mathlib.Core.Path.{_≡_};
+ghost use Prim.Native.Nat.{_≤_};
+ghost use lib.ListN.{length};
+ghost use Rattle.pieces.specs.Pieces.{putIn, endIn, Put};
+ghost use Rattle.contents.specs.Contents.{entryAt, mostCards, largestDeck};
+ghost use Rattle.layout.specs.Layout.{entryFor, entriesFrom, namedIn, contentsFor};
 
-// The most cards of a deck, and the bytes of their fields where all are solved.
+// The most cards of a deck, the bytes of their fields where all are solved, and those of the deck.
 pub const CARDS: usize = 256;
 
 pub const FIELDS: usize = 31744;
+
+pub const DECK: usize = 35848;
 
 // The length of the deck that was written, or why none was.
 pub enum Written {
     Deck(usize),
     Refused(Reason),
+}
+
+// Puts version, count and entries of cards with these kinds into out from the first byte on, as far as
+// out goes: the entries up to the first number that names no kind, and nothing for more than 256
+// kinds. Answers where it ends.
+pub fn put_contents(kinds: &[u32], out: &mut [u8]) -> usize
+    ensures { λ r. ⌜ r ≡ endIn (now (out .entry)) 0 (contentsFor (now (kinds .entry))) ⌝ }
+    ensures { λ r. ⌜ now (out .exit) ≡ putIn (now (out .entry)) 0 (contentsFor (now (kinds .entry))) ⌝ }
+{
+    if CARDS < kinds.len() {
+        return 0;
+    }
+    let version = words::put_half(out, 0, contents::VERSION);
+    let count = words::put_half(out, version, kinds.len() as u32);
+    put_entries(kinds, out, count)
+}
+
+// An entry for each kind, up to the first number that names none.
+fn put_entries(kinds: &[u32], out: &mut [u8], start: usize) -> usize
+    requires { ⌜ (length (now kinds) ≤ mostCards) × (start ≤ length (now out)) ⌝ }
+    ensures { λ r. ⌜ Put (now (out .entry)) start (entriesFrom (entryAt (length (now (kinds .entry)))) (namedIn (now (kinds .entry)))) (now (out .exit)) r ⌝ }
+{
+    let mut offset = contents::HEADER + contents::ENTRY * kinds.len();
+    let mut end = start;
+    let mut i = 0;
+    while i < kinds.len() {
+        let Named::Kind(kind) = card::kind_of(kinds[i]) else {
+            return end;
+        };
+        end = put_entry(kind, offset, out, end);
+        offset += kind.size();
+        i += 1;
+    }
+    end
+}
+
+fn put_entry(kind: Kind, offset: usize, out: &mut [u8], at: usize) -> usize
+    requires { ⌜ offset ≤ largestDeck ⌝ }
+    ensures { λ r. ⌜ Put (now (out .entry)) at (entryFor kind offset) (now (out .exit)) r ⌝ }
+{
+    let number = words::put_half(out, at, kind.number());
+    let place = words::put_half(out, number, offset as u32);
+    words::put_half(out, place, kind.size() as u32)
 }

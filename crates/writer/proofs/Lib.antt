@@ -1,4 +1,3 @@
 mod Measuring
-mod Entering
 mod Laying
 pub mod Fixed

@@ -2,21 +2,19 @@
 //
 // Nothing is computed from a card's fields. Every function here is proved, `write` is total, and the
 // crate assumes nothing.
-use card::Kind;
 use card::Named;
 use contents::Reason;
 use layout::Written;
 ghost use mathlib.Core.Path.{_≡_};
 ghost use mathlib.Core.List.{List};
-ghost use Prim.Native.Nat.{_+_, _*_, _≤_};
+ghost use Prim.Native.Nat.{_≤_};
 ghost use lib.ListN.{length};
 ghost use Rattle.rows.specs.Rows.{pass, onward};
 ghost use Rattle.pieces.specs.Pieces.{Put};
-ghost use Rattle.card.specs.Fields.{Card, packedSize};
-ghost use Rattle.card.specs.Made.{bodyFrom};
-ghost use Rattle.contents.specs.Contents.{entryAt, mostCards, largestDeck, Passes};
-ghost use Rattle.layout.specs.Layout.{entryFor, entriesFrom, bodiesOf, deckOf};
-ghost use Rattle.layout.specs.Packed.{kindsOf, packedCards, finishedCards};
+ghost use Rattle.card.specs.Fields.{Card};
+ghost use Rattle.contents.specs.Contents.{mostCards, Passes};
+ghost use Rattle.layout.specs.Layout.{bodiesOf, deckOf};
+ghost use Rattle.layout.specs.Packed.{packedCards, finishedCards};
 ghost use Rattle.layout.specs.Written.{lengthFor, bufferAfter, said};
 
 // Writes the cards with these kinds and these fields, one card's behind the other's and without
@@ -35,8 +33,7 @@ pub fn write(kinds: &[u32], fields: &[u8], buffer: &mut [u8]) -> Written
     if buffer.len() < size {
         return Written::Refused(Reason::NoRoom);
     }
-    fill(kinds, fields, buffer);
-    made
+    Written::Deck(fill(kinds, fields, buffer))
 }
 
 // How long the deck of these cards is, or why they make none.
@@ -65,43 +62,13 @@ fn measured(kinds: &[u32], fields: &[u8]) -> Written
     Written::Deck(end)
 }
 
-// Version and count, the entries, the bodies.
+// The contents, the bodies.
 fn fill(kinds: &[u32], fields: &[u8], buffer: &mut [u8]) -> usize
     requires { ⌜ (length (now kinds) ≤ mostCards) × Passes (packedCards (now kinds) (now fields)) ⌝ }
     ensures { λ r. ⌜ ((cards : List Card) → packedCards (now (kinds .entry)) (now (fields .entry)) ≡ pass cards → Put (now (buffer .entry)) 0 (deckOf cards) (now (buffer .exit)) r) ⌝ }
 {
-    let version = words::put_half(buffer, 0, contents::VERSION);
-    let count = words::put_half(buffer, version, kinds.len() as u32);
-    let end = entries(kinds, buffer, count);
+    let end = layout::put_contents(kinds, buffer);
     bodies(kinds, fields, buffer, end)
-}
-
-// An entry for each kind.
-fn entries(kinds: &[u32], buffer: &mut [u8], start: usize) -> usize
-    requires { ⌜ (length (now kinds) ≤ mostCards) × (start ≤ length (now buffer)) ⌝ }
-    ensures { λ r. ⌜ ((cards : List Card) → kindsOf cards ≡ now (kinds .entry) → Put (now (buffer .entry)) start (entriesFrom (entryAt (length cards)) cards) (now (buffer .exit)) r) ⌝ }
-{
-    let mut offset = contents::HEADER + contents::ENTRY * kinds.len();
-    let mut end = start;
-    let mut i = 0;
-    while i < kinds.len() {
-        let Named::Kind(kind) = card::kind_of(kinds[i]) else {
-            return end;
-        };
-        end = entry(kind, offset, buffer, end);
-        offset += kind.size();
-        i += 1;
-    }
-    end
-}
-
-fn entry(kind: Kind, offset: usize, buffer: &mut [u8], start: usize) -> usize
-    requires { ⌜ offset ≤ largestDeck ⌝ }
-    ensures { λ r. ⌜ Put (now (buffer .entry)) start (entryFor kind offset) (now (buffer .exit)) r ⌝ }
-{
-    let number = words::put_half(buffer, start, kind.number());
-    let place = words::put_half(buffer, number, offset as u32);
-    words::put_half(buffer, place, kind.size() as u32)
 }
 
 // The body of each card.
@@ -117,23 +84,9 @@ fn bodies(kinds: &[u32], fields: &[u8], buffer: &mut [u8], start: usize) -> usiz
             return end;
         };
         let next = at + kind.packed();
-        end = body(kind, &fields[at..next], buffer, end);
+        end = card::put_body(kind, &fields[at..next], buffer, end);
         at = next;
         i += 1;
     }
     end
-}
-
-// The body of a card: its fields, and its spares.
-fn body(kind: Kind, fields: &[u8], buffer: &mut [u8], start: usize) -> usize
-    requires { ⌜ length (now fields) ≡ packedSize kind ⌝ }
-    ensures { λ r. ⌜ Put (now (buffer .entry)) start (bodyFrom kind (now (fields .entry))) (now (buffer .exit)) r ⌝ }
-{
-    let problem = pieces::put(buffer, start, &fields[..card::PROBLEM]);
-    let spare = words::put_half(buffer, problem, 0);
-    let answer = pieces::put(buffer, spare, &fields[card::PROBLEM..]);
-    match kind {
-        Kind::Solved => answer,
-        Kind::Refused => words::put_half(buffer, answer, 0),
-    }
 }

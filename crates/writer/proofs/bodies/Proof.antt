@@ -3,9 +3,8 @@ use mathlib.Core.Path.{_≡_, sym, ap, _∙_}
 use Prim.Native.Nat.{ℕ, _+_, _-_, _≤_}
 use native.Mathlib.Omega.{arith}
 use borrow.Author.Needs.{needs}
-use lib.ListN.{length, take, drop, getD, length-drop}
-use lib.Seq.{length-take-le}
-use Rattle.pieces.proofs.Puts.{renamed}
+use lib.ListN.{length, take, drop, getD}
+use Rattle.pieces.proofs.Puts.{renamed, wrote}
 use Rattle.rows.specs.Rows.{pass}
 use Rattle.card.specs.Said.{named}
 use Rattle.card.specs.Fields.{kindOf, packedSize}
@@ -40,21 +39,13 @@ inside c = rw (c .packed .ensures) (room (c .before .before .before .before .bef
 part : (at n : ℕ) → at + n - at ≡ n
 part at n = omega arith
 
-body-requires : tie.Need-body-requires Inv-loop μ-loop
-body-requires c κs =
-    let at : ℕ = c .before .before .before .before .before .before .before .before .before .loop .at in
-    let n : ℕ = c .before .before .packed .result in
-    let fields = c .before .before .before .before .before .before .before .before .before .before .before .before .before .args .fields .now in
-    let left = length-drop at fields in
-    length-take-le (at + n - at) (drop at fields) (omega (arith, left, inside (c .before .before))) ∙ part at n ∙ c .before .before .packed .ensures
-
 loop-again : tie.Need-loop-again Inv-loop μ-loop
 loop-again c =
     let at : ℕ = c .before .before .before .before .before .before .before .before .before .before .before .before .loop .at in
     let kind = c .before .before .before .before .before .before .before .kind .given .0 .0 in
     let fields = c .before .before .before .before .before .before .before .before .before .before .before .before .before .before .before .before .args .fields .now in
     let named-part = ap (λ (n : ℕ). bodyFrom kind (take n (drop at fields))) (part at (c .before .before .before .before .before .packed .result) ∙ c .before .before .before .before .before .packed .ensures) in
-    rw (c .before .before .before .before .before .packed .ensures) (turn (c .before .before .before .before .before .before .before .before .before .before .before .before .loop .inv) kind (omega arith) (known (c .before .before .before .before .before)) (renamed named-part (c .before .before .body .ensures)))
+    rw (c .before .before .before .before .before .packed .ensures) (turn (c .before .before .before .before .before .before .before .before .before .before .before .before .loop .inv) kind (omega arith) (known (c .before .before .before .before .before)) (renamed named-part (wrote (c .before .before .put-body .ensures))))
 
 returns-2 : tie.Need-returns-2 Inv-loop μ-loop
 returns-2 c = laid (c .before .loop .inv) (omega arith)
@@ -78,7 +69,7 @@ bodies-spec =
     (λ c. omega arith)
     (λ c. search needs)
     (λ c. inside c)
-    body-requires
+    (λ c κs. search needs)
     (λ c. omega arith)
     (λ c. omega arith)
     loop-again

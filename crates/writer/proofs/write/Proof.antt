@@ -55,10 +55,7 @@ fill-requires : tie.Need-fill-requires
 fill-requires c κs = (omega arith, subst Passes (sym (made (c .before .before) .packed)) tt)
 
 returns-4 : tie.Need-returns-4
-returns-4 c =
-    let m = made (c .before .before .before .before .before) in
-    let w = deck-writes (m .finished) (omega (arith, m .long)) (c .before .before .fill .ensures (m .cards) (m .packed)) in
-    (ap pass (sym (m .long)) ∙ w .0, w .1)
+returns-4 c = let m = made (c .before .before .before .before .before) in deck-writes (m .finished) (omega (arith, m .long)) (c .before .before .fill .ensures (m .cards) (m .packed))
 
 pub write-spec : {M : Type 1} → statement M
 write-spec =

@@ -1,4 +1,4 @@
--- `writer::entries` meets its contract: after each turn, the entries of the cards that are left, written behind what stands, are those of all.
+-- `layout::put_entries` meets its contract: after each turn, the entries of the kinds that are left, written behind what stands, are those of all.
 use mathlib.Core.Path.{_≡_, sym, ap, _∙_}
 use Prim.Native.Nat.{_-_}
 use native.Mathlib.Omega.{arith}
@@ -8,27 +8,27 @@ use Rattle.rows.specs.Rows.{pass}
 use Rattle.card.specs.Said.{named}
 use Rattle.card.specs.Fields.{kindOf}
 use Rattle.card.proofs.Sizes.{size-most}
-use Rattle.writer.proofs.Entering.{Entering, begin, never-unknown, turn, entered}
-use Rattle.writer.proofs.entries.Statement.{statement}
-use Rattle.writer.proofs.entries.Tie as tie
+use Rattle.layout.proofs.Entering.{Entering, begin, turn, no-kind, entered}
+use Rattle.layout.proofs.put_entries.Statement.{statement}
+use Rattle.layout.proofs.put_entries.Tie as tie
 
 abbrev Inv-loop : tie.InvT-loop
-Inv-loop kinds buffer₀ start offset₀ end₀ i₀ buffer offset end i = Entering kinds buffer₀ start buffer offset end i
+Inv-loop kinds out₀ start offset₀ end₀ i₀ out offset end i = Entering kinds out₀ start out offset end i
 
 abbrev μ-loop : tie.MeasureT-loop
-μ-loop kinds buffer₀ start offset₀ end₀ i₀ buffer offset end i = length kinds - i
+μ-loop kinds out₀ start offset₀ end₀ i₀ out offset end i = length kinds - i
 
 loop-holds : tie.Need-loop-holds Inv-loop μ-loop
-loop-holds c = begin (c .before .before .args .kinds .now) (c .before .before .args .buffer .now) (c .before .before .args .start) (c .before .before .pre .1)
+loop-holds c = begin (c .before .before .args .kinds .now) (c .before .before .args .out .now) (c .before .before .args .start) (c .before .before .pre .1)
 
 same-length : tie.Need-same-length Inv-loop μ-loop
 same-length c = c .before .before .before .before .before .loop .inv .as-long
 
 returns : tie.Need-returns Inv-loop μ-loop
-returns c = λ cards e. absurd (never-unknown (c .before .before .before .before .before .loop .inv) cards e 34 (omega arith) (sym (c .before .before .kind-of .ensures) ∙ ap named (c .enum-told .given .1)))
+returns c = no-kind (c .before .before .before .before .before .loop .inv) 34 (omega arith) (sym (c .before .before .kind-of .ensures) ∙ ap named (c .enum-told .given .1))
 
-entry-requires : tie.Need-entry-requires Inv-loop μ-loop
-entry-requires c κs = omega (arith, c .before .before .before .before .before .before .before .loop .inv .most)
+put-entry-requires : tie.Need-put-entry-requires Inv-loop μ-loop
+put-entry-requires c κs = omega (arith, c .before .before .before .before .before .before .before .loop .inv .most)
 
 -- the kind that is named
 known : (c : tie.After-size Inv-loop μ-loop) → kindOf (getD (c .before .before .before .before .before .before .before .before .before .before .before .before .before .before .args .kinds .now) (c .before .before .before .before .before .before .before .before .before .before .before .loop .i) 0) ≡ pass (c .before .before .before .before .before .before .kind .given .0 .0)
@@ -38,13 +38,13 @@ add-offset-2 : tie.Need-add-offset-2 Inv-loop μ-loop
 add-offset-2 c = omega (arith, c .before .before .before .before .before .before .before .before .before .before .before .loop .inv .most, c .size .ensures, size-most (c .before .before .before .before .before .before .kind .given .0 .0))
 
 loop-again : tie.Need-loop-again Inv-loop μ-loop
-loop-again c = rw (c .size .ensures) (turn (c .before .before .before .before .before .before .before .before .before .before .before .loop .inv) (c .before .before .before .before .before .before .kind .given .0 .0) (omega arith) (known c) (c .before .before .before .entry .ensures))
+loop-again c = rw (c .size .ensures) (turn (c .before .before .before .before .before .before .before .before .before .before .before .loop .inv) (c .before .before .before .before .before .before .kind .given .0 .0) (omega arith) (known c) (c .before .before .before .put-entry .ensures))
 
 returns-2 : tie.Need-returns-2 Inv-loop μ-loop
 returns-2 c = entered (c .before .loop .inv) (omega arith)
 
-pub entries-spec : {M : Type 1} → statement M
-entries-spec =
+pub put-entries-spec : {M : Type 1} → statement M
+put-entries-spec =
     tie.close
     (tie.spec
     Inv-loop
@@ -59,7 +59,7 @@ entries-spec =
     (λ c. search needs)
     same-length
     returns
-    entry-requires
+    put-entry-requires
     (λ c κs. search needs)
     add-offset-2
     (λ c. omega arith)
