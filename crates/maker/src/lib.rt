@@ -18,14 +18,11 @@ pub enum Asked {
     Copy,
 }
 
-// The bytes of the largest deck.
-const ROOM: usize = 35848;
-
 // Answers standard input on standard output.
 pub fn make(asked: Asked) {
     let mut space = io::large_buffer();
     let got = read(asked, &mut space, enough(asked));
-    let mut page = [0u8; ROOM];
+    let mut page = [0u8; layout::DECK];
     let answer = made(asked, &space[..got], &mut page);
     let end = reply::reply(answer, &mut page);
     write(asked, &space[..got], &page[..end]);
