@@ -83,12 +83,9 @@ module _ (given : List ℕ) (sized : length given ≡ problemSize) (said : conic
   pub made-size : length (cardFor given said .body) ≡ sizeOf (cardFor given said .kind)
   made-size = body-size (kindFor said) given (answerFor said) sized (answer-length said)
 
-  -- its fields, and that its spares are 0 already
-  pub made-fields : fieldsIn (cardFor given said .kind) (cardFor given said .body) ≡ given ++ answerFor said
-  made-fields = fields-of-body (kindFor said) given (answerFor said) sized (answer-length said)
-
-  pub made-body : bodyFrom (cardFor given said .kind) (fieldsIn (cardFor given said .kind) (cardFor given said .body)) ≡ cardFor given said .body
-  made-body = ap (bodyFrom (kindFor said)) made-fields ∙ body-back (kindFor said) given (answerFor said) sized
+  -- the bytes of its fields
+  pub made-long : length (given ++ answerFor said) ≡ packedSize (kindFor said)
+  made-long = length-append given (answerFor said) ∙ ap₂ _+_ sized (answer-length said)
 
   pub made-begins : take problemSize (cardFor given said .body) ≡ given
   made-begins = begins (kindFor said) given (answerFor said) sized

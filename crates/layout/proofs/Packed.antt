@@ -1,6 +1,6 @@
 -- Laws of cards as kinds and fields without spares: what one more card comes to, refused or a card in front of the rest; that as many cards come
--- out as there are kinds, each with its kind's size; that kinds and fields of one more card stand behind those of the others; and that kinds and
--- fields of cards give these cards, their spares cleared, and the other way.
+-- out as there are kinds, each with its kind's size; that kinds, fields and body of one more card stand behind those of the others; and that kinds
+-- and fields of cards give these cards, their spares cleared, and the other way.
 use mathlib.Core.Path.{_≡_, refl, sym, ap, ap₂, subst, _∙_}
 use mathlib.Core.Bool.{Bool}
 use mathlib.Core.List.{List, [], _∷_, _++_, map, append-nil, append-assoc, map-append}
@@ -16,6 +16,7 @@ use Rattle.card.specs.declared.Kind.{Kind}
 use Rattle.card.specs.Fields.{Card, kindOf, kindNumber, sizeOf, packedSize}
 use Rattle.card.specs.Made.{fieldsIn, bodyFrom}
 use Rattle.card.proofs.Packed.{length-body, length-fields, fields-back}
+use Rattle.layout.specs.Layout.{bodiesOf}
 use Rattle.layout.specs.Packed.{kindsOf, fieldsOf, packedCard, packedCards, cleared}
 use Rattle.layout.proofs.Sizes.{AllSized}
 use Rattle.layout.proofs.KindNumbers.{kind-of-number, number-of-kind}
@@ -24,7 +25,7 @@ use Rattle.layout.proofs.KindNumbers.{kind-of-number, number-of-kind}
 pub length-kinds : (cards : List Card) → length (kindsOf cards) ≡ length cards
 length-kinds cards = length-map cards (λ (c : Card). kindNumber (c .kind))
 
--- kinds and fields of one more card stand behind those of the others
+-- kinds, fields and body of one more card stand behind those of the others
 pub kinds-behind : (cards : List Card) (c : Card) → kindsOf (cards ++ (c ∷ [])) ≡ kindsOf cards ++ (kindNumber (c .kind) ∷ [])
 kinds-behind cards c = map-append (λ (c : Card). kindNumber (c .kind)) cards (c ∷ [])
 
@@ -34,6 +35,11 @@ fields-behind [] c = append-nil (fieldsIn (c .kind) (c .body))
 fields-behind (d ∷ cards) c =
     let here = fieldsIn (d .kind) (d .body) in
     ap (λ (l : List ℕ). here ++ l) (fields-behind cards c) ∙ sym (append-assoc here (fieldsOf cards) (fieldsIn (c .kind) (c .body)))
+
+pub bodies-behind : (cards : List Card) (c : Card) → bodiesOf (cards ++ (c ∷ [])) ≡ bodiesOf cards ++ c .body
+unfolding bodiesOf
+bodies-behind [] c = append-nil (c .body)
+bodies-behind (d ∷ cards) c = ap (λ (l : List ℕ). d .body ++ l) (bodies-behind cards c) ∙ sym (append-assoc (d .body) (bodiesOf cards) (c .body))
 
 module _ (n : ℕ) (kinds fields : List ℕ) where
   -- a card in front of the rest

@@ -10,7 +10,7 @@ use Rattle.card.specs.Fields.{Card, sizeOf}
 use Rattle.card.specs.Made.{fieldsIn}
 use Rattle.card.proofs.Sizes.{size-most}
 use Rattle.card.proofs.Packed.{length-fields, packed-most}
-use Rattle.contents.specs.Contents.{entrySize, entryAt, mostCards, largestDeck}
+use Rattle.contents.specs.Contents.{headerSize, entrySize, entryAt, mostCards, largestDeck}
 use Rattle.layout.specs.Layout.{entryFor, entriesFrom, contentsOf, kindsIn, bodiesOf, deckOf}
 use Rattle.layout.specs.Packed.{fieldsOf}
 
@@ -34,14 +34,17 @@ pub length-deck : (cards : List Card) → length (deckOf cards) ≡ entryAt (len
 unfolding deckOf
 length-deck cards = length-append (contentsOf (length cards) (kindsIn cards)) (bodiesOf cards) ∙ ap (λ (n : ℕ). n + length (bodiesOf cards)) (length-contents cards)
 
--- no more than the largest deck's
+-- no more than with as many of the largest cards, and no more than the largest deck's
 bodies-most : (cards : List Card) → AllSized cards → length (bodiesOf cards) ≤ 128 * length cards
 unfolding bodiesOf
 bodies-most [] w = omega arith
 bodies-most (c ∷ cards) w = simp length-append (omega (arith, w .0, size-most (c .kind), bodies-most cards (w .1)))
 
+pub deck-within : (cards : List Card) → AllSized cards → length (deckOf cards) ≤ headerSize + length cards * (entrySize + 128)
+deck-within cards w = omega (arith, length-deck cards, bodies-most cards w)
+
 pub deck-most : (cards : List Card) → length cards ≤ mostCards → AllSized cards → length (deckOf cards) ≤ largestDeck
-deck-most cards h w = omega (arith, length-deck cards, bodies-most cards w)
+deck-most cards h w = omega (arith, deck-within cards w)
 
 pub fields-most : (cards : List Card) → AllSized cards → length (fieldsOf cards) ≤ 124 * length cards
 unfolding fieldsOf

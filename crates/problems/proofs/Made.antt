@@ -1,23 +1,18 @@
--- The cards of problems: as many as there are problems, each with its kind's size, its problem as given and its spares 0; so their kinds and
--- fields are these cards again.
-use mathlib.Core.Path.{_≡_, refl, sym, ap, ap₂, _∙_}
-use mathlib.Core.List.{List, [], _∷_, _++_, map}
-use Prim.Native.Nat.{ℕ, zero, suc, _+_, _*_, _/_, _%_, _≤_, _<_}
+-- The cards of problems: as many as there are problems, each with its kind's size; and what all problems come to, cards or a refusal.
+use mathlib.Core.Path.{_≡_, refl, ap}
+use mathlib.Core.List.{List}
+use Prim.Native.Nat.{ℕ, zero, suc, _*_, _/_, _%_, _≤_, _<_}
 use native.Mathlib.Omega.{arith}
 use borrow.Author.Tests.{le-leb, lt-leb, eq-eqb, ne-eqb}
 use lib.ListN.{length, take, drop, length-drop}
 use lib.Seq.{length-take-le}
 use Rattle.rows.specs.Rows.{Checked, pass, refuse, must}
 use Rattle.kepler.specs.Kepler.{keplerOf}
-use Rattle.card.specs.declared.Kind.{Kind}
-use Rattle.card.specs.Fields.{Card, problemSize, problemOf}
-use Rattle.card.proofs.Packed.{made-size, made-body}
+use Rattle.card.specs.Fields.{problemSize, problemOf}
+use Rattle.card.proofs.Packed.{made-size}
 use Rattle.contents.specs.Contents.{mostCards}
-use Rattle.layout.specs.Packed.{kindsOf, fieldsOf, finishedCards, cleared}
 use Rattle.layout.proofs.Sizes.{AllSized}
-use Rattle.layout.proofs.Packed.{length-kinds, packed-back}
-use Rattle.layout.proofs.Writing.{few-enough}
-use Rattle.problems.specs.Problems.{cardOf, cardsFor, problemCards}
+use Rattle.problems.specs.Problems.{cardsFor, problemCards}
 
 -- ---- the first n problems, which are there
 
@@ -39,14 +34,6 @@ all-sized (suc n) problems h =
     let given = take problemSize problems in
     (made-size given (first-size n problems h) (keplerOf (problemOf given)), all-sized n (drop problemSize problems) (others n problems h))
 
-all-cleared : (n : ℕ) (problems : List ℕ) → problemSize * n ≤ length problems → map cleared (cardsFor n problems) ≡ cardsFor n problems
-unfolding cardsFor
-all-cleared zero problems h = refl
-all-cleared (suc n) problems h =
-    let given = take problemSize problems in
-    let same = made-body given (first-size n problems h) (keplerOf (problemOf given)) in
-    ap₂ _∷_ (ap (λ (body : List ℕ). record { kind = cardOf given .kind; body = body }) same) (all-cleared n (drop problemSize problems) (others n problems h))
-
 -- ---- all problems
 
 pub too-many : (problems : List ℕ) → mostCards < length problems / problemSize → problemCards problems ≡ refuse 40
@@ -66,17 +53,3 @@ whole problems = omega arith
 
 pub sized : (problems : List ℕ) → AllSized (cardsFor (length problems / problemSize) problems)
 sized problems = all-sized (length problems / problemSize) problems (whole problems)
-
--- what the writer of finished cards makes of their kinds and fields
-pub finished : (problems : List ℕ) → length problems / problemSize ≤ mostCards → length problems % problemSize ≡ 0
-    → (kinds fields : List ℕ) → kinds ≡ kindsOf (cardsFor (length problems / problemSize) problems) → fields ≡ fieldsOf (cardsFor (length problems / problemSize) problems)
-    → finishedCards kinds fields ≡ problemCards problems
-finished problems h e kinds fields k f =
-    let n : ℕ = length problems / problemSize in
-    let cards = cardsFor n problems in
-    let few : length (kindsOf cards) ≤ mostCards = rw (length-kinds cards, as-many n problems) h in
-    ap₂ finishedCards k f
-    ∙ few-enough (kindsOf cards) (fieldsOf cards) few
-    ∙ packed-back cards (sized problems)
-    ∙ ap pass (all-cleared n problems (whole problems))
-    ∙ sym (all-whole problems h e)

@@ -17,10 +17,16 @@ ghost use Rattle.words.specs.Words.{wordsBytes};
 ghost use Rattle.conic.specs.Said as conic;
 ghost use Rattle.kepler.specs.Kepler.{keplerOf};
 ghost use Rattle.card.specs.Fields.{problemSize, problemOf};
-ghost use Rattle.card.specs.Made.{solvedAnswer, kindFor, answerFor};
-ghost use Rattle.layout.specs.Packed.{kindsOf, fieldsOf};
+ghost use Rattle.rows.specs.Rows.{pass};
+ghost use Rattle.card.specs.Made.{bodyOf, solvedAnswer, kindFor, answerFor};
+ghost use Rattle.contents.specs.Contents.{entryAt, mostCards, largestDeck};
+ghost use Rattle.layout.specs.Layout.{bodiesOf, deckOf};
+ghost use Rattle.layout.specs.Packed.{kindsOf};
 ghost use Rattle.layout.specs.Written.{lengthFor, bufferAfter, said};
 ghost use Rattle.problems.specs.Problems.{wordsIn, cardsFor, problemCards, givenIn};
+
+// The most bytes of a card's fields: a solved card's.
+const FIELDS: usize = 124;
 
 // A card: the problem and its answer, and beside the problem's numbers the words that were given for
 // them, since a NaN among them may have any payload.
@@ -42,31 +48,82 @@ pub fn write(problems: &[u8], buffer: &mut [u8]) -> Written
     if problems.len() % card::PROBLEM != 0 {
         return Written::Refused(Reason::BytesDoNotFit);
     }
-    let mut kinds = [0u32; layout::CARDS];
-    let mut fields = [0u8; layout::FIELDS];
-    let end = answer(problems, &mut kinds, &mut fields);
-    writer::write(&kinds[..count], &fields[..end], buffer)
+    let most = contents::HEADER + count * (contents::ENTRY + Kind::Solved.size());
+    if buffer.len() < most {
+        return in_little_room(problems, buffer);
+    }
+    Written::Deck(fill(problems, buffer))
 }
 
-// The kind and the fields of each problem's card.
-fn answer(problems: &[u8], kinds: &mut [u32], fields: &mut [u8]) -> usize
-    requires { ⌜ length (now problems) / problemSize ≤ length (now kinds) ⌝ }
+// Whether the deck fits is only known once it is made.
+fn in_little_room(problems: &[u8], buffer: &mut [u8]) -> Written
+    requires { ⌜ length (now problems) / problemSize ≤ mostCards ⌝ }
+    ensures { λ r. ⌜ said r ≡ lengthFor (pass (cardsFor (length (now (problems .entry)) / problemSize) (now (problems .entry)))) (length (now (buffer .entry))) ⌝ }
+    ensures { λ r. ⌜ now (buffer .exit) ≡ bufferAfter (pass (cardsFor (length (now (problems .entry)) / problemSize) (now (problems .entry)))) (now (buffer .entry)) ⌝ }
+{
+    let mut page = blank();
+    let end = fill(problems, &mut page);
+    if buffer.len() < end {
+        return Written::Refused(Reason::NoRoom);
+    }
+    Written::Deck(pieces::put(buffer, 0, &page[..end]))
+}
+
+// A page with room for any deck.
+fn blank() -> [u8; layout::DECK]
+    ensures { λ r. ⌜ largestDeck ≡ length r ⌝ }
+{
+    [0; layout::DECK]
+}
+
+// The deck of these problems' cards, on a page with room for its contents. These are written last: not
+// before all problems are answered are the kinds known.
+fn fill(problems: &[u8], page: &mut [u8]) -> usize
+    requires { ⌜ (length (now problems) / problemSize ≤ mostCards) × (entryAt (length (now problems) / problemSize) ≤ length (now page)) ⌝ }
+    ensures { λ r. ⌜ Put (now (page .entry)) 0 (deckOf (cardsFor (length (now (problems .entry)) / problemSize) (now (problems .entry)))) (now (page .exit)) r ⌝ }
+{
+    let count = problems.len() / card::PROBLEM;
+    let mut kinds = [0u32; layout::CARDS];
+    let end = answer(
+        problems,
+        &mut kinds,
+        page,
+        contents::HEADER + contents::ENTRY * count,
+    );
+    layout::put_contents(&kinds[..count], page);
+    end
+}
+
+// The kind and the body of each problem's card.
+fn answer(problems: &[u8], kinds: &mut [u32], page: &mut [u8], start: usize) -> usize
+    requires { ⌜ (length (now problems) / problemSize ≤ length (now kinds)) × (start ≤ length (now page)) ⌝ }
     ensures { λ r. ⌜ Put (now (kinds .entry)) 0 (kindsOf (cardsFor (length (now (problems .entry)) / problemSize) (now (problems .entry)))) (now (kinds .exit)) (length (now (problems .entry)) / problemSize) ⌝ }
-    ensures { λ r. ⌜ Put (now (fields .entry)) 0 (fieldsOf (cardsFor (length (now (problems .entry)) / problemSize) (now (problems .entry)))) (now (fields .exit)) r ⌝ }
+    ensures { λ r. ⌜ Put (now (page .entry)) start (bodiesOf (cardsFor (length (now (problems .entry)) / problemSize) (now (problems .entry)))) (now (page .exit)) r ⌝ }
 {
     let mut i = 0;
     let mut at = 0;
-    let mut end = 0;
+    let mut end = start;
     while card::PROBLEM <= problems.len() - at {
         let next = at + card::PROBLEM;
         let made = answered(&problems[at..next]);
         let outcome = made.outcome;
-        kinds[i] = kind_of(outcome).number();
-        end = put_card(made, fields, end);
+        let kind = kind_of(outcome);
+        kinds[i] = kind.number();
+        end = put_body(made, kind, page, end);
         at = next;
         i += 1;
     }
     end
+}
+
+// The body of a card.
+fn put_body(made: Card, kind: Kind, page: &mut [u8], at: usize) -> usize
+    requires { ⌜ length (givenIn made) ≡ problemSize ⌝ }
+    ensures { λ r. ⌜ Put (now (page .entry)) at (bodyOf kind (givenIn made) (answerFor (conic.said (made .outcome)))) (now (page .exit)) r ⌝ }
+{
+    let mut fields = [0u8; FIELDS];
+    let end = put_card(made, &mut fields, 0);
+    card::put_body(kind, &fields[..end], page, at)
 }
 
 // The card of one problem.

@@ -1,39 +1,22 @@
--- `problems::write` meets its contract: what is refused is one row of the definition, and else the kinds and the fields of all cards stand at the
--- front of their lists, which have room for them, so that the writer of finished cards is given these cards.
-use mathlib.Core.Path.{_≡_, refl, sym, ap, _∙_}
+-- `problems::write` meets its contract: what is refused is one row of the definition, and else the deck is written into the buffer itself, where
+-- that has room for as many of the largest cards, or by way of a page.
+use mathlib.Core.Path.{_≡_, sym, ap, _∙_}
 use mathlib.Core.List.{List}
-use Prim.Native.Nat.{ℕ, _/_, _≤_}
+use Prim.Native.Nat.{ℕ, _/_, _%_, _+_, _*_, _≤_}
 use native.Mathlib.Omega.{arith}
 use borrow.Author.Needs.{needs}
-use lib.ListN.{length, take, replicate, length-replicate}
-use lib.Seq.{length-take-le}
-use Rattle.pieces.specs.Pieces.{Put}
-use Rattle.pieces.proofs.Puts.{inside, front}
+use lib.ListN.{length}
+use Rattle.rows.specs.Rows.{pass}
 use Rattle.card.specs.Fields.{problemSize}
-use Rattle.contents.specs.Contents.{mostCards}
-use Rattle.layout.specs.Packed.{kindsOf, fieldsOf, finishedCards}
+use Rattle.card.proofs.Sizes.{solved-size}
+use Rattle.layout.specs.Layout.{deckOf}
 use Rattle.layout.specs.Written.{lengthFor, bufferAfter}
-use Rattle.layout.proofs.Sizes.{fields-most}
-use Rattle.layout.proofs.Packed.{length-kinds}
-use Rattle.layout.proofs.Writing.{refused-writes}
+use Rattle.layout.proofs.Sizes.{deck-within}
+use Rattle.layout.proofs.Writing.{refused-writes, deck-writes}
 use Rattle.problems.specs.Problems.{cardsFor, problemCards}
-use Rattle.problems.proofs.Made.{as-many, sized, too-many, ends-inside, finished}
+use Rattle.problems.proofs.Made.{as-many, sized, too-many, ends-inside, all-whole}
 use Rattle.problems.proofs.write.Statement.{statement}
 use Rattle.problems.proofs.write.Tie as tie
-
--- the kinds at the front of a list of 256, and the fields at the front of one of 31,744 bytes
-kinds-there : (problems : List ℕ) {kinds : List ℕ} → length problems / problemSize ≤ mostCards → Put (replicate 256 0) 0 (kindsOf (cardsFor (length problems / problemSize) problems)) kinds (length problems / problemSize)
-    → take (length problems / problemSize) kinds ≡ kindsOf (cardsFor (length problems / problemSize) problems)
-kinds-there problems h p =
-    let n : ℕ = length problems / problemSize in
-    front p (omega (arith, length-kinds (cardsFor n problems), as-many n problems, length-replicate {A = ℕ} 256 0)) .1
-
-fields-there : (problems : List ℕ) {fields : List ℕ} {end : ℕ} → length problems / problemSize ≤ mostCards → Put (replicate 31744 0) 0 (fieldsOf (cardsFor (length problems / problemSize) problems)) fields end
-    → take end fields ≡ fieldsOf (cardsFor (length problems / problemSize) problems)
-fields-there problems h p =
-    let n : ℕ = length problems / problemSize in
-    let cards = cardsFor n problems in
-    front p (omega (arith, fields-most cards (sized problems), as-many n problems, length-replicate {A = ℕ} 31744 0)) .1
 
 returns : tie.Need-returns
 returns c = refused-writes (c .before .before .before .args .buffer .now) (too-many (c .before .before .before .args .problems .now) (omega arith))
@@ -41,24 +24,27 @@ returns c = refused-writes (c .before .before .before .args .buffer .now) (too-m
 returns-2 : tie.Need-returns-2
 returns-2 c = refused-writes (c .before .before .before .before .args .buffer .now) (ends-inside (c .before .before .before .before .args .problems .now) (omega arith) (c .if2 .taken))
 
-slice-aggregate-write : tie.Need-slice-aggregate-write
-slice-aggregate-write c = sym (length-take-le _ _ (inside (c .before .before .before .answer .ensures .0)))
+-- the bytes of the largest body
+largest : (c : tie.After-size) → c .size .result ≡ 128
+largest c = c .size .ensures ∙ solved-size
 
-array-share-prefix-fields : tie.Need-array-share-prefix-fields
-array-share-prefix-fields c = inside (c .before .before .before .answer .ensures .1)
-
-slice-aggregate-write-2 : tie.Need-slice-aggregate-write-2
-slice-aggregate-write-2 c = sym (length-take-le _ _ (inside (c .before .before .before .before .answer .ensures .1)))
+-- the cards of problems that are whole
+whole : (c : tie.After-size) → problemCards (c .before .before .before .before .before .args .problems .now) ≡ pass (cardsFor (length (c .before .before .before .before .before .args .problems .now) / problemSize) (c .before .before .before .before .before .args .problems .now))
+whole c = all-whole (c .before .before .before .before .before .args .problems .now) (omega arith) (c .before .if2 .left)
 
 returns-3 : tie.Need-returns-3
 returns-3 c =
-    let from = c .before .before .before .before .before .before .before .before .before .before .before .before .before .before .before in
-    let made = c .before .before .before .before .before .before .before .before in
-    let problems = from .args .problems .now in
-    let few : length problems / problemSize ≤ mostCards = omega arith in
-    let same = finished problems few (c .before .before .before .before .before .before .before .before .before .before .before .if2 .left) _ _ (kinds-there problems few (made .answer .ensures .0)) (fields-there problems few (made .answer .ensures .1)) in
-    let w = c .before .before .write .ensures in
-    (w .0 ∙ ap (λ m. lengthFor m (length (from .args .buffer .now))) same, w .1 ∙ ap (λ m. bufferAfter m (from .args .buffer .now)) same)
+    let same = sym (whole (c .before .before .before .before .before)) in
+    let w = c .before .before .in-little-room .ensures in
+    (w .0 ∙ ap (λ m. lengthFor m (length (c .before .before .before .before .before .before .before .before .before .before .args .buffer .now))) same, w .1 ∙ ap (λ m. bufferAfter m (c .before .before .before .before .before .before .before .before .before .before .args .buffer .now)) same)
+
+returns-4 : tie.Need-returns-4
+returns-4 c =
+    let problems = c .before .before .before .before .before .before .before .before .before .before .args .problems .now in
+    let n : ℕ = length problems / problemSize in
+    let room : 8 + n * (12 + 128) ≤ length (c .before .before .before .before .before .before .before .before .before .before .args .buffer .now) = rw (largest (c .before .before .before .before .before)) at (c .before .before .before .before .if3 .left) in
+    let fits : length (deckOf (cardsFor n problems)) ≤ length (c .before .before .before .before .before .before .before .before .before .before .args .buffer .now) = omega (arith, deck-within (cardsFor n problems) (sized problems), as-many n problems, room) in
+    deck-writes (whole (c .before .before .before .before .before)) fits (c .before .before .fill .ensures)
 
 pub write-spec : {M : Type 1} → statement M
 write-spec =
@@ -66,13 +52,13 @@ write-spec =
     (tie.spec
     returns
     returns-2
-    (λ c. search needs)
-    (λ c. search needs)
+    (λ c κs. search needs)
+    (λ c. omega (arith, largest c))
+    (λ c. rw (largest c) (omega arith))
+    (λ c. rw (largest c) (omega arith))
     (λ c κs. search needs)
     (λ c. search needs)
-    slice-aggregate-write
-    array-share-prefix-fields
-    slice-aggregate-write-2
+    returns-3
     (λ c κs. search needs)
     (λ c. search needs)
-    returns-3)
+    returns-4)
