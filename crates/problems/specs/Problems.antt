@@ -5,10 +5,11 @@ use lib.Dec.{leb, eqb}
 use lib.ListN.{length, take, drop}
 use Rattle.words.specs.Words.{valueAt, bytesOf, wordsBytes}
 use Rattle.rows.specs.Rows.{Checked, pass, must}
+use Rattle.conic.specs.Said as conic
 use Rattle.kepler.specs.Kepler.{keplerOf}
 use Rattle.card.specs.Fields as card
 use Rattle.card.specs.Fields.{problemSize, problemOf}
-use Rattle.card.specs.Made.{cardFor}
+use Rattle.card.specs.Made.{answerFor, cardFor}
 use Rattle.contents.specs.Contents.{mostCards}
 use Rattle.problems.specs.declared.Card.{Card}
 
@@ -36,6 +37,10 @@ wordsIn given = valueAt 8 given 0 ∷ valueAt 8 given 8 ∷ valueAt 8 given 16 �
 -- the bytes of the problem that a card struct holds
 abbrev pub givenIn : Card → List ℕ
 givenIn c = wordsBytes (c .given) ++ bytesOf 4 (c .problem .limit)
+
+-- and the fields that it has on a card, without spares
+abbrev pub fieldsOf : Card → List ℕ
+fieldsOf c = givenIn c ++ answerFor (conic.said (c .outcome))
 
 -- Writing a deck 7: what is read of problems: one more than a deck may have
 abbrev pub readOfProblems : ℕ

@@ -9,7 +9,6 @@ use conic::State;
 use contents::Reason;
 use layout::Written;
 ghost use mathlib.Core.Path.{_≡_};
-ghost use mathlib.Core.List.{_++_};
 ghost use Prim.Native.Nat.{_/_, _≤_};
 ghost use lib.ListN.{length};
 ghost use Rattle.pieces.specs.Pieces.{Put};
@@ -23,7 +22,7 @@ ghost use Rattle.contents.specs.Contents.{entryAt, mostCards, largestDeck};
 ghost use Rattle.layout.specs.Layout.{bodiesOf, deckOf};
 ghost use Rattle.layout.specs.Packed.{kindsOf};
 ghost use Rattle.layout.specs.Written.{lengthFor, bufferAfter, said};
-ghost use Rattle.problems.specs.Problems.{wordsIn, cardsFor, problemCards, givenIn};
+ghost use Rattle.problems.specs.Problems.{wordsIn, cardsFor, problemCards, givenIn, fieldsOf};
 
 // The most bytes of a card's fields: a solved card's.
 const FIELDS: usize = 124;
@@ -173,7 +172,7 @@ fn kind_of(outcome: Outcome) -> Kind
 // A card's fields, without spares.
 fn put_card(made: Card, fields: &mut [u8], at: usize) -> usize
     requires { ⌜ at ≤ length (now fields) ⌝ }
-    ensures { λ r. ⌜ Put (now (fields .entry)) at (givenIn made ++ answerFor (conic.said (made .outcome))) (now (fields .exit)) r ⌝ }
+    ensures { λ r. ⌜ Put (now (fields .entry)) at (fieldsOf made) (now (fields .exit)) r ⌝ }
 {
     let given = made.given;
     let outcome = made.outcome;
