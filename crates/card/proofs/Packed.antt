@@ -1,9 +1,9 @@
 -- Fields without spares and the bodies that have them: how many bytes each has, and that a body gives back the fields that it was made of.
-use mathlib.Core.Path.{_≡_, refl, sym, ap, ap₂, _∙_}
+use mathlib.Core.Path.{_≡_, sym, ap, ap₂, _∙_}
 use mathlib.Core.List.{List, _++_}
 use Prim.Native.Nat.{ℕ, _+_, _-_, _≤_}
 use native.Mathlib.Omega.{arith}
-use lib.ListN.{length, take, drop, length-append, length-take, length-drop, take-append-drop}
+use lib.ListN.{length, take, drop, length-append, length-drop, take-append-drop}
 use lib.Seq.{length-take-le, take-all, take-at, drop-at, drop-drop}
 use Rattle.words.proofs.Written.{length-bytes}
 use Rattle.conic.specs.Said as conic

@@ -1,11 +1,10 @@
 -- The contents of a deck from the numbers of its kinds: those of cards' kinds are the contents of these cards' deck, as long as header and
 -- entries, and the bodies stand behind them.
-use mathlib.Core.Path.{_≡_, refl, sym, ap, ap₂, _∙_}
+use mathlib.Core.Path.{_≡_, refl, ap, ap₂, _∙_}
 use mathlib.Core.List.{List, [], _∷_, _++_}
 use Prim.Native.Nat.{ℕ, _≤_, _<_}
 use borrow.Author.Tests.{le-leb, lt-leb}
 use lib.ListN.{length}
-use Rattle.rows.specs.Rows.{pass}
 use Rattle.card.specs.declared.Kind.{Kind}
 use Rattle.card.specs.Fields.{Card}
 use Rattle.contents.specs.Contents.{entryAt, mostCards}

@@ -2,7 +2,6 @@
 -- out as there are kinds, each with its kind's size; that kinds, fields and body of one more card stand behind those of the others; and that kinds
 -- and fields of cards give these cards, their spares cleared, and the other way.
 use mathlib.Core.Path.{_≡_, refl, sym, ap, ap₂, subst, _∙_}
-use mathlib.Core.Bool.{Bool}
 use mathlib.Core.List.{List, [], _∷_, _++_, map, append-nil, append-assoc, map-append}
 use Prim.Native.Nat.{ℕ, suc, _+_, _≤_, _<_}
 use native.Mathlib.Omega.{arith}
@@ -13,8 +12,8 @@ use lib.Seq.{length-take-le, take-at, drop-at}
 use Rattle.rows.specs.Rows.{Checked, pass, refuse, must, onward}
 use Rattle.rows.proofs.Laws.{pass-once, test-passed, rows-passed}
 use Rattle.card.specs.declared.Kind.{Kind}
-use Rattle.card.specs.Fields.{Card, kindOf, kindNumber, sizeOf, packedSize}
-use Rattle.card.specs.Made.{fieldsIn, bodyFrom}
+use Rattle.card.specs.Fields.{Card, kindOf, kindNumber, packedSize}
+use Rattle.card.specs.Made.{fieldsIn}
 use Rattle.card.proofs.Packed.{length-body, length-fields, fields-back}
 use Rattle.layout.specs.Layout.{bodiesOf}
 use Rattle.layout.specs.Packed.{kindsOf, fieldsOf, packedCard, packedCards, cleared}

@@ -1,5 +1,5 @@
 -- What writing cards into a buffer comes to: a refusal, which leaves the buffer as it was, or the deck at its front.
-use mathlib.Core.Path.{_≡_, refl, sym, ap, _∙_}
+use mathlib.Core.Path.{_≡_, refl, ap}
 use mathlib.Core.List.{List}
 use Prim.Native.Nat.{ℕ, _≤_, _<_}
 use borrow.Author.Tests.{leb-true, le-leb, lt-leb}
@@ -13,7 +13,7 @@ use Rattle.card.specs.Fields.{Card}
 use Rattle.contents.specs.Contents.{mostCards}
 use Rattle.layout.specs.Layout.{deckOf}
 use Rattle.layout.specs.Packed.{packedCards, finishedCards}
-use Rattle.layout.specs.Written.{deckFor, lengthFor, withDeck, bufferAfter}
+use Rattle.layout.specs.Written.{deckFor, lengthFor, bufferAfter}
 
 -- more than 256 cards, or as many as may be
 pub too-many : (kinds fields : List ℕ) → mostCards < length kinds → finishedCards kinds fields ≡ refuse 40

@@ -3,7 +3,7 @@ use Prim.Native.Nat.{ℕ}
 use mathlib.Core.List.{List, [], _∷_, _++_, map}
 use lib.Dec.{leb, eqb}
 use lib.ListN.{length, take, drop}
-use Rattle.rows.specs.Rows.{Checked, pass, refuse, must, onward}
+use Rattle.rows.specs.Rows.{Checked, pass, must, onward}
 use Rattle.card.specs.declared.Kind.{Kind}
 use Rattle.card.specs.Fields.{Card, kindOf, kindNumber, packedSize}
 use Rattle.card.specs.Made.{fieldsIn, bodyFrom}

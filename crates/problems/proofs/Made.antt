@@ -6,7 +6,7 @@ use native.Mathlib.Omega.{arith}
 use borrow.Author.Tests.{le-leb, lt-leb, eq-eqb, ne-eqb}
 use lib.ListN.{length, take, drop, length-drop}
 use lib.Seq.{length-take-le}
-use Rattle.rows.specs.Rows.{Checked, pass, refuse, must}
+use Rattle.rows.specs.Rows.{pass, refuse, must}
 use Rattle.kepler.specs.Kepler.{keplerOf}
 use Rattle.card.specs.Fields.{problemSize, problemOf}
 use Rattle.card.proofs.Packed.{made-size}

@@ -11,12 +11,12 @@ use layout::Written;
 ghost use mathlib.Core.Path.{_≡_};
 ghost use Prim.Native.Nat.{_/_, _≤_};
 ghost use lib.ListN.{length};
+ghost use Rattle.rows.specs.Rows.{pass};
 ghost use Rattle.pieces.specs.Pieces.{Put};
 ghost use Rattle.words.specs.Words.{wordsBytes};
 ghost use Rattle.conic.specs.Said as conic;
 ghost use Rattle.kepler.specs.Kepler.{keplerOf};
 ghost use Rattle.card.specs.Fields.{problemSize, problemOf};
-ghost use Rattle.rows.specs.Rows.{pass};
 ghost use Rattle.card.specs.Made.{bodyOf, solvedAnswer, kindFor, answerFor};
 ghost use Rattle.contents.specs.Contents.{entryAt, mostCards, largestDeck};
 ghost use Rattle.layout.specs.Layout.{bodiesOf, deckOf};
@@ -75,8 +75,8 @@ fn blank() -> [u8; layout::DECK]
     [0; layout::DECK]
 }
 
-// The deck of these problems' cards, on a page with room for its contents. These are written last: not
-// before all problems are answered are the kinds known.
+// The deck of these problems' cards, on a page with room for its contents. These are written last, since
+// the kinds are known only once all problems are answered. Answers where the deck ends.
 fn fill(problems: &[u8], page: &mut [u8]) -> usize
     requires { ⌜ (length (now problems) / problemSize ≤ mostCards) × (entryAt (length (now problems) / problemSize) ≤ length (now page)) ⌝ }
     ensures { λ r. ⌜ Put (now (page .entry)) 0 (deckOf (cardsFor (length (now (problems .entry)) / problemSize) (now (problems .entry)))) (now (page .exit)) r ⌝ }
@@ -93,7 +93,7 @@ fn fill(problems: &[u8], page: &mut [u8]) -> usize
     end
 }
 
-// The kind and the body of each problem's card.
+// The kind of each problem's card, and its body, from index start on. Answers where the last one ends.
 fn answer(problems: &[u8], kinds: &mut [u32], page: &mut [u8], start: usize) -> usize
     requires { ⌜ (length (now problems) / problemSize ≤ length (now kinds)) × (start ≤ length (now page)) ⌝ }
     ensures { λ r. ⌜ Put (now (kinds .entry)) 0 (kindsOf (cardsFor (length (now (problems .entry)) / problemSize) (now (problems .entry)))) (now (kinds .exit)) (length (now (problems .entry)) / problemSize) ⌝ }

@@ -18,7 +18,7 @@ use Rattle.card.specs.Made.{bodyFrom}
 use Rattle.contents.specs.Contents.{Passes}
 use Rattle.contents.proofs.Cards.{come-to-cards}
 use Rattle.layout.specs.Layout.{bodiesOf}
-use Rattle.layout.specs.Packed.{packedCard, packedCards}
+use Rattle.layout.specs.Packed.{packedCards}
 use Rattle.layout.proofs.Packed.{OneMore, one-more, as-many}
 
 pub record Laying (kinds fields before : List ℕ) (start : ℕ) (buffer : List ℕ) (at end i : ℕ) : Type 0 where

@@ -1,7 +1,5 @@
 -- `layout::put_contents` meets its contract: nothing for too many kinds, and else version, count and entries, one behind the other.
 use mathlib.Core.Path.{sym}
-use mathlib.Core.List.{List}
-use Prim.Native.Nat.{ℕ}
 use native.Mathlib.Omega.{arith}
 use borrow.Author.Needs.{needs}
 use Rattle.pieces.proofs.Puts.{puts, none, renamed, wrote, both, inside}

@@ -1,5 +1,5 @@
 -- `problems::answer` meets its contract: after each turn, the kinds and the bodies of the cards of the problems so far stand where they belong.
-use mathlib.Core.Path.{_≡_, sym, ap, ap₂, _∙_}
+use mathlib.Core.Path.{_≡_, ap, ap₂, _∙_}
 use mathlib.Core.List.{List}
 use Prim.Native.Nat.{ℕ, _+_, _-_}
 use native.Mathlib.Omega.{arith}

@@ -1,7 +1,6 @@
 -- `problems::answered` meets its contract: the words and the limit that were read are the bytes, and the outcome is Kepler's.
-use mathlib.Core.Path.{_≡_, ap, ap₂, _∙_}
+use mathlib.Core.Path.{ap, ap₂, _∙_}
 use mathlib.Core.List.{_++_}
-use Prim.Native.Nat.{ℕ}
 use native.Mathlib.Omega.{arith}
 use borrow.Author.Needs.{needs}
 use Rattle.words.specs.Words.{bytesOf, wordsBytes}

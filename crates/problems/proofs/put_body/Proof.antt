@@ -1,6 +1,5 @@
 -- `problems::put_body` meets its contract: a card's fields stand at the front of their array, which has room for them, and its body is made of them.
-use mathlib.Core.Path.{_≡_, sym, ap, _∙_}
-use mathlib.Core.List.{List}
+use mathlib.Core.Path.{sym, ap, _∙_}
 use Prim.Native.Nat.{ℕ}
 use native.Mathlib.Omega.{arith}
 use borrow.Author.Needs.{needs}

@@ -1,5 +1,4 @@
 -- `problems::put_card` meets its contract: the words of the numbers, the limit and the answer, one behind the other.
-use mathlib.Core.List.{append-assoc}
 use borrow.Author.Needs.{needs}
 use Rattle.pieces.proofs.Puts.{puts, wrote, inside}
 use Rattle.problems.proofs.put_card.Statement.{statement}

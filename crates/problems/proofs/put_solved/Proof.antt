@@ -1,8 +1,5 @@
 -- `problems::put_solved` meets its contract: the words are those of the answer's numbers.
-use mathlib.Core.Path.{_≡_, refl, ap}
 use borrow.Author.Needs.{needs}
-use Rattle.pieces.proofs.Puts.{renamed}
-use Rattle.words.specs.Words.{wordsBytes}
 use Rattle.problems.proofs.put_solved.Statement.{statement}
 use Rattle.problems.proofs.put_solved.Tie as tie
 

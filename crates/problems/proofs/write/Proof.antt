@@ -1,8 +1,7 @@
 -- `problems::write` meets its contract: what is refused is one row of the definition, and else the deck is written into the buffer itself, where
 -- that has room for as many of the largest cards, or by way of a page.
 use mathlib.Core.Path.{_≡_, sym, ap, _∙_}
-use mathlib.Core.List.{List}
-use Prim.Native.Nat.{ℕ, _/_, _%_, _+_, _*_, _≤_}
+use Prim.Native.Nat.{ℕ, _/_, _+_, _*_, _≤_}
 use native.Mathlib.Omega.{arith}
 use borrow.Author.Needs.{needs}
 use lib.ListN.{length}

@@ -7,7 +7,7 @@ use lib.ListN.{length, take, drop, getD}
 use Rattle.pieces.proofs.Puts.{renamed, wrote}
 use Rattle.rows.specs.Rows.{pass}
 use Rattle.card.specs.Said.{named}
-use Rattle.card.specs.Fields.{kindOf, packedSize}
+use Rattle.card.specs.Fields.{kindOf}
 use Rattle.card.specs.Made.{bodyFrom}
 use Rattle.writer.proofs.Laying.{Laying, begin, never-unknown, room, turn, laid}
 use Rattle.writer.proofs.bodies.Statement.{statement}

@@ -1,7 +1,5 @@
 -- `writer::fill` meets its contract: the contents that the kinds name are those of the cards' deck, and the bodies stand behind them.
-use mathlib.Core.Path.{_≡_, sym, ap}
-use mathlib.Core.List.{List}
-use Prim.Native.Nat.{ℕ}
+use mathlib.Core.Path.{sym, ap}
 use native.Mathlib.Omega.{arith}
 use borrow.Author.Needs.{needs}
 use Rattle.pieces.proofs.Puts.{puts, renamed, wrote, inside}

@@ -5,11 +5,10 @@ use Prim.Native.Nat.{ℕ, _≤_}
 use native.Mathlib.Omega.{arith}
 use borrow.Author.Needs.{needs}
 use lib.ListN.{length}
-use Rattle.rows.specs.Rows.{Checked, pass, refuse}
+use Rattle.rows.specs.Rows.{pass, refuse}
 use Rattle.rows.proofs.Laws.{row-refused, rows-passed, pass-once}
 use Rattle.card.specs.Fields.{Card}
 use Rattle.contents.specs.Contents.{mostCards, Passes}
-use Rattle.contents.specs.Said.{reasonNumber}
 use Rattle.layout.specs.Layout.{deckOf}
 use Rattle.layout.specs.Packed.{packedCards, finishedCards}
 use Rattle.layout.specs.Written.{said}
