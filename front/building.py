@@ -42,16 +42,28 @@ def lock(program: Program):
     try:
         os.makedirs(folder, exist_ok=True)
         held = open(os.path.join(folder, "lock"), "w")
-        fcntl.flock(held, fcntl.LOCK_EX)
+        take(held, program.name)
     except OSError as failure:
         raise Stop(f"{program.name} can't be built: {failure.filename or folder}: {failure.strerror}") from None
     return held
 
 
+def take(held, name: str) -> None:
+    """Locks the file, and says so where another holds it."""
+    try:
+        fcntl.flock(held, fcntl.LOCK_EX | fcntl.LOCK_NB)
+    except BlockingIOError:
+        streams.say(f"{name} has to be built, and another build is going on; waiting for its end")
+        fcntl.flock(held, fcntl.LOCK_EX)
+
+
 def built_as_it_stands(program: Program, rt: str) -> bool:
-    """Builds it, and writes the stamp; False where a source was changed while it was built."""
+    """Builds it, and writes the stamp; False where a source was changed while it was built.
+
+    Till then the stamp is empty, so that nothing that a build leaves half-way is run."""
     name = program.name
     before = program.sources()
+    write_stamp(program, "")
     status, said = run_rt(program, rt)
     if status != 0:
         streams.write(2, said)
@@ -60,9 +72,14 @@ def built_as_it_stands(program: Program, rt: str) -> bool:
         raise Stop(f"{name} was not built: 'rt check {name}' left no target/bin/{name}")
     if program.sources() != before:
         return False
-    with open(program.stamp, "w", encoding="utf-8", errors="surrogateescape") as stamp:
-        stamp.write(program.state(before))
+    write_stamp(program, program.state(before))
     return True
+
+
+def write_stamp(program: Program, state: str) -> None:
+    """Says of which state the program is built."""
+    with open(program.stamp, "w", encoding="utf-8", errors="surrogateescape") as stamp:
+        stamp.write(state)
 
 
 def run_rt(program: Program, rt: str) -> tuple[int, bytes]:
@@ -86,7 +103,7 @@ def run_rt(program: Program, rt: str) -> tuple[int, bytes]:
 
 def follow(source: int, program: Program) -> bytes:
     """Reads what rt prints to its end. Where rt is quiet, it is said which crate is being proved."""
-    crates = program.crates()
+    crates = program.crates() or [program.name]
     began = time.time()
     said = b""
     told = ""

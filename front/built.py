@@ -1,9 +1,10 @@
 """Programs that are built, and no older than their sources; building where they are not.
 
 The sources of a program are the files of its crate and of all crates that it stands on, without their
-must-fail edits and the file `stdout`, and crates.txt. A program may be run where it is newer than all
-of them, their folders too; or where the stamp that was written when it was last built here names the
-very state that it and they are in. Else `rt check` proves and builds it first.
+must-fail edits and the file `stdout`, and crates.txt. Where the front has built the program, or begun
+to, a stamp says of which state; the program may then be run where it and its sources are in that very
+state. Where there is no stamp, it may be run where it is newer than all of them, their folders too.
+Else `rt check` proves and builds it first.
 """
 
 from __future__ import annotations
@@ -54,11 +55,11 @@ class Program:
         if not os.path.exists(os.path.join(self.top, LISTED)):
             return True
         sources = self.sources()
-        if os.stat(self.path).st_mtime_ns > max(time for _, _, time in sources):
-            return True
         try:
             with open(self.stamp, encoding="utf-8", errors="surrogateescape") as stamp:
                 return stamp.read() == self.state(sources)
+        except FileNotFoundError:
+            return os.stat(self.path).st_mtime_ns > max(time for _, _, time in sources)
         except OSError:
             return False
 

@@ -99,7 +99,12 @@ def answer_fields(card: words.Card) -> list[tuple[str, str]]:
     if card.kind == "solved":
         x, *state = card.answer
         return [("x", words.shortest(x)), *state_fields(state)]
-    return [("refusal", f"{card.refusal}: {page.reason(card.refusal)}"), *spare_fields(card.spares[1:])]
+    return [("refusal", refusal_text(card.refusal)), *spare_fields(card.spares[1:])]
+
+
+def refusal_text(number: int) -> str:
+    """The number on a refused card, with its reason where a prediction can be refused with it."""
+    return f"{number}: {page.reason(number) if number in words.REFUSALS else 'no refusal of a prediction'}"
 
 
 def state_fields(state: list[int]) -> list[tuple[str, str]]:

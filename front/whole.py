@@ -52,7 +52,10 @@ def remove(path: str) -> None:
 
 def settle(folder: str) -> None:
     """Has the folder's own change written to the disk, where the file system can do that."""
-    opened = os.open(folder, os.O_RDONLY)
+    try:
+        opened = os.open(folder, os.O_RDONLY)
+    except OSError:
+        return
     try:
         os.fsync(opened)
     except OSError:

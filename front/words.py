@@ -29,6 +29,8 @@ REFUSAL = struct.Struct("<II")  # the refusal's number, spare
 KINDS = {1: "solved", 2: "refused"}
 ANSWER_AT = PROBLEM.size + SPARE.size
 SIZES = {"solved": ANSWER_AT + ANSWER.size, "refused": ANSWER_AT + REFUSAL.size}
+# The numbers with which a prediction after a time can be refused.
+REFUSALS = frozenset((1, 2, 3, 5, 6, 7, 8, 9, 10, 11, 14))
 MOST_CARDS = 256
 MOST_DECK = HEADER.size + MOST_CARDS * (ENTRY.size + SIZES["solved"])
 

@@ -164,7 +164,12 @@ class Building(Scratch):
         with mock.patch("front.streams.write") as write, self.assertRaisesRegex(streams.Stop, "was not built"):
             self.run_build("exit 1")
         self.assertIn(b"rt: middle proved", write.call_args.args[1])
-        self.assertFalse(os.path.exists(self.program.stamp))
+        self.assertFalse(self.program.is_fresh(), "it was linked, and the build failed")
+
+    def test_a_source_that_changes_and_then_fails(self):
+        with mock.patch("front.streams.write"), self.assertRaisesRegex(streams.Stop, "was not built"):
+            self.run_build("[ $(wc -l <asked) -eq 1 ] || exit 1; echo more >>crates/low/src/lib.rt")
+        self.assertFalse(self.program.is_fresh(), "it was linked from sources that are gone")
 
     def test_a_build_that_leaves_nothing(self):
         with self.assertRaisesRegex(streams.Stop, "left no target/bin/program"):

@@ -48,6 +48,11 @@ class Show(unittest.TestCase):
         card.numbers[1:4] = [words.NAN, words.SIGN | words.INFINITY, words.NAN + 1]
         self.assertIn(("position", "nan -inf 0x7ff8000000000001 km"), show.problem_fields(card))
 
+    def test_a_refusal_and_other_numbers(self):
+        self.assertTrue(show.refusal_text(8).startswith("8: beyond"))
+        for number in (0, 4, 22, 40, 99, 4294967295):
+            self.assertEqual(show.refusal_text(number), f"{number}: no refusal of a prediction")
+
     def test_the_listing_of_another_deck(self):
         said = listing.Listing(None, [("refused", 0)], [0, 1, 0])
         with self.assertRaisesRegex(streams.Stop, "not this deck's"):

@@ -24,7 +24,7 @@ pub fn fixed() -> Vec<Named> {
     list.extend(limits(chance));
     list.extend(cut(&problems));
     list.extend(long(&problems));
-    list.extend((0..150).map(|_| mixed(chance)));
+    list.extend((0..250).map(|_| mixed(chance)));
     list
 }
 
