@@ -1,5 +1,5 @@
 -- Each public function's contract has one result: `Learnt` is the contract itself, as Rattle reads it off the source for callers (coincidence's `Fixes`).
-use mathlib.Core.Path.{refl, ap}
+use mathlib.Core.Path.{refl}
 use Rattle.coincidence.specs.Coincidence.{Fixes}
 use Rattle.coincidence.proofs.Laws.{one-result, one-answer}
 use Rattle.card.proofs.Theorems.{named-once}
@@ -15,8 +15,6 @@ use Rattle.card.proofs.number.Reads as number
 use Rattle.card.proofs.number.Kinds as number-kinds
 use Rattle.card.proofs.problem.Reads as problem
 use Rattle.card.proofs.problem.Kinds as problem-kinds
-use Rattle.card.proofs.put_body.Reads as put-body
-use Rattle.card.proofs.put_body.Kinds as put-body-kinds
 
 pub kind-number-fixes : Fixes 0 kind-number-kinds.ps kind-number-kinds.r kind-number.Learnt
 kind-number-fixes κs a x y v w p q = (one-result p q, refl)
@@ -35,6 +33,3 @@ number-fixes κs a x y v w p q = (one-result p q, refl)
 
 pub problem-fixes : Fixes 1 problem-kinds.ps problem-kinds.r problem.Learnt
 problem-fixes κs a x y v w p q = (one-result p q, refl)
-
-pub put-body-fixes : Fixes 2 put-body-kinds.ps put-body-kinds.r put-body.Learnt
-put-body-fixes κs a x y v w p q = (one-result (p .0) (q .0), ap (λ l. (tt, (tt, (l, (tt, tt))))) (one-result (p .1) (q .1)))

@@ -6,15 +6,12 @@
 use conic::Problem;
 use vectors::Vector;
 ghost use mathlib.Core.Path.{_≡_};
-ghost use Prim.Native.Nat.{_≤_, min};
-ghost use lib.ListN.{length};
-ghost use Rattle.pieces.specs.Pieces.{putIn, endIn};
-ghost use Rattle.card.specs.Fields.{kindOf, kindNumber, sizeOf, problemSize, packedSize, numberAt, vectorAt, problemOf};
-ghost use Rattle.card.specs.Made.{bodyFrom};
+ghost use Prim.Native.Nat.{_≤_};
+ghost use Rattle.card.specs.Fields.{kindOf, kindNumber, sizeOf, packedSize, numberAt, vectorAt, problemOf};
 ghost use Rattle.card.specs.Said.{named};
 
-// A problem's bytes, and where the fields of a body begin behind them: the problem's spare; of a solved card x,
-// position and velocity; of a refused one the number and a spare.
+// A problem's bytes, and where the fields of a body begin behind them: the problem's spare; of a
+// solved card x, position and velocity; of a refused one the number and a spare.
 pub const PROBLEM: usize = 68;
 
 pub const SPARE: usize = 68;
@@ -111,32 +108,5 @@ fn vector(body: &[u8], at: usize) -> Vector
         x: number(body, at),
         y: number(body, at + 8),
         z: number(body, at + 16),
-    }
-}
-
-// Puts the body of a card that has these fields, which come without spares, into out from index at on,
-// as far as out goes. Answers where it ends.
-pub fn put_body(kind: Kind, fields: &[u8], out: &mut [u8], at: usize) -> usize
-    ensures { λ r. ⌜ r ≡ endIn (now (out .entry)) at (bodyFrom kind (now (fields .entry))) ⌝ }
-    ensures { λ r. ⌜ now (out .exit) ≡ putIn (now (out .entry)) at (bodyFrom kind (now (fields .entry))) ⌝ }
-{
-    let first = given(fields);
-    let problem = pieces::put(out, at, &fields[..first]);
-    let spare = words::put_half(out, problem, 0);
-    let answer = pieces::put(out, spare, &fields[first..]);
-    match kind {
-        Kind::Solved => answer,
-        Kind::Refused => words::put_half(out, answer, 0),
-    }
-}
-
-// The bytes of fields that are the problem's: 68, or as many as there are.
-fn given(fields: &[u8]) -> usize
-    ensures { λ r. ⌜ r ≡ min problemSize (length (now (fields .entry))) ⌝ }
-{
-    if fields.len() < PROBLEM {
-        fields.len()
-    } else {
-        PROBLEM
     }
 }

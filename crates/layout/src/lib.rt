@@ -1,15 +1,17 @@
 // The one layout of a deck: the bytes of a list of cards, and cards as kinds and fields without spares.
 // docs/RULES.md, The deck and Writing a deck.
 //
-// Definitions and laws, the contents as they are written, and the answer of every function that writes
-// a deck. Every function here is proved, the public one is total, and the crate assumes nothing.
+// Definitions and laws, contents and bodies as they are written, and the answer of every function that
+// writes a deck. Every function here is proved, the public ones are total, and the crate assumes nothing.
 use card::Kind;
 use card::Named;
 use contents::Reason;
 ghost use mathlib.Core.Path.{_≡_};
-ghost use Prim.Native.Nat.{_≤_};
+ghost use Prim.Native.Nat.{_≤_, min};
 ghost use lib.ListN.{length};
 ghost use Rattle.pieces.specs.Pieces.{putIn, endIn, Put};
+ghost use Rattle.card.specs.Fields.{problemSize};
+ghost use Rattle.card.specs.Made.{bodyFrom};
 ghost use Rattle.contents.specs.Contents.{entryAt, mostCards, largestDeck};
 ghost use Rattle.layout.specs.Layout.{entryFor, entriesFrom, namedIn, contentsFor};
 
@@ -67,4 +69,31 @@ fn put_entry(kind: Kind, offset: usize, out: &mut [u8], at: usize) -> usize
     let number = words::put_half(out, at, kind.number());
     let place = words::put_half(out, number, offset as u32);
     words::put_half(out, place, kind.size() as u32)
+}
+
+// Puts the body of a card that has these fields, which come without spares, into out from index at on,
+// as far as out goes. Answers where it ends.
+pub fn put_body(kind: Kind, fields: &[u8], out: &mut [u8], at: usize) -> usize
+    ensures { λ r. ⌜ r ≡ endIn (now (out .entry)) at (bodyFrom kind (now (fields .entry))) ⌝ }
+    ensures { λ r. ⌜ now (out .exit) ≡ putIn (now (out .entry)) at (bodyFrom kind (now (fields .entry))) ⌝ }
+{
+    let first = given(fields);
+    let problem = pieces::put(out, at, &fields[..first]);
+    let spare = words::put_half(out, problem, 0);
+    let answer = pieces::put(out, spare, &fields[first..]);
+    match kind {
+        Kind::Solved => answer,
+        Kind::Refused => words::put_half(out, answer, 0),
+    }
+}
+
+// The bytes of fields that are the problem's: 68, or as many as there are.
+fn given(fields: &[u8]) -> usize
+    ensures { λ r. ⌜ r ≡ min problemSize (length (now (fields .entry))) ⌝ }
+{
+    if fields.len() < card::PROBLEM {
+        fields.len()
+    } else {
+        card::PROBLEM
+    }
 }

@@ -122,7 +122,7 @@ fn put_body(made: Card, kind: Kind, page: &mut [u8], at: usize) -> usize
 {
     let mut fields = [0u8; FIELDS];
     let end = put_card(made, &mut fields, 0);
-    card::put_body(kind, &fields[..end], page, at)
+    layout::put_body(kind, &fields[..end], page, at)
 }
 
 // The card of one problem.

@@ -84,7 +84,7 @@ fn bodies(kinds: &[u32], fields: &[u8], buffer: &mut [u8], start: usize) -> usiz
             return end;
         };
         let next = at + kind.packed();
-        end = card::put_body(kind, &fields[at..next], buffer, end);
+        end = layout::put_body(kind, &fields[at..next], buffer, end);
         at = next;
         i += 1;
     }

@@ -1,4 +1,4 @@
--- `card::put_body` meets its contract: the pieces of a body, one behind the other. Fields of fewer than 68 bytes are all taken for the problem.
+-- `layout::put_body` meets its contract: the pieces of a body, one behind the other. Fields of fewer than 68 bytes are all taken for the problem.
 use mathlib.Core.Path.{_≡_, refl, sym, _∙_}
 use mathlib.Core.Bool.{Bool, true, false}
 use mathlib.Core.List.{List}
@@ -10,9 +10,9 @@ use lib.Dec.{leb}
 use lib.ListN.{length, take, drop, length-drop, drop-of-length-le}
 use lib.Seq.{length-take-le, take-all}
 use Rattle.pieces.proofs.Puts.{puts, renamed, wrote, both}
 use Rattle.card.specs.Fields.{problemSize}
-use Rattle.card.proofs.put_body.Statement.{statement}
-use Rattle.card.proofs.put_body.Tie as tie
+use Rattle.layout.proofs.put_body.Statement.{statement}
+use Rattle.layout.proofs.put_body.Tie as tie
 
 -- fields of which n bytes are taken for the problem, and the rest for the answer
 abbrev Parted : (fields : List ℕ) (n : ℕ) → Type 0
