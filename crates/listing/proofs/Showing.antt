@@ -10,7 +10,7 @@ use native.Mathlib.Omega.{arith}
 use lib.ListN.{length, drop, getD, length-drop, drop-of-length-le}
 use lib.Seq.{drop-cons}
 use Rattle.pieces.specs.Pieces.{Put}
-use Rattle.pieces.proofs.Puts as text
+use Rattle.pieces.proofs.Puts as pieces
 use Rattle.pieces.proofs.Puts.{puts, none, renamed}
 use Rattle.rows.specs.Rows.{pass, refuse}
 use Rattle.rows.proofs.Laws.{pass-once}
@@ -106,8 +106,8 @@ module _ {deck list : List ℕ} {count : ℕ} {before page : List ℕ} {i end : 
         kinds = subst (KindsFrom deck i) (next h .2) (s .kinds) .1;
         behind = s .behind;
         numbers = ap (λ (k : ℕ). drop k list) (add-one i) ∙ tail-is (both-numbers h);
-        inside = text.inside p;
-        as-long = text.as-long p ∙ s .as-long;
+        inside = pieces.inside p;
+        as-long = pieces.as-long p ∙ s .as-long;
         to-come = λ last end′ q. s .to-come last end′ (renamed (lines-are h kind e) (puts p q));
       }
 

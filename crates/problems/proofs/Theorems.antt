@@ -1,15 +1,14 @@
 -- What is written from problems: the reader accepts it, every verdict is 0, and its problems are the ones given, in order, as bytes. And it is
 -- written wherever there is room for the largest deck, unless there are too many problems or one is cut off.
 use mathlib.Core.Path.{_≡_, refl, sym, ap, ap₂, _∙_}
-use mathlib.Core.Bool.{Bool, true, false}
 use mathlib.Core.List.{List, [], _∷_, _++_}
-use Prim.Native.Nat.{ℕ, zero, suc, _+_, _-_, _*_, _/_, _%_, _≤_, _<_}
+use Prim.Native.Nat.{ℕ, zero, suc, _+_, _*_, _/_, _%_, _≤_}
 use native.Mathlib.Omega.{arith}
 use borrow.Author.Tests.{leb-true, eqb-true, le-leb}
 use lib.Dec.{leb, eqb}
 use lib.ListN.{length, take, drop, replicate, length-append, length-drop, take-append-drop, drop-of-length-le}
 use lib.Seq.{length-take-le}
-use Rattle.rows.specs.Rows.{Checked, pass, refuse, must, onward}
+use Rattle.rows.specs.Rows.{pass, must, onward}
 use Rattle.rows.proofs.Laws.{pass-once, test-passed, rows-passed}
 use Rattle.kepler.specs.Kepler.{keplerOf}
 use Rattle.card.specs.Fields.{Card, problemSize, problemOf}
@@ -21,7 +20,7 @@ use Rattle.layout.specs.Layout.{deckOf}
 use Rattle.layout.specs.Written.{deckFor}
 use Rattle.layout.proofs.Sizes.{deck-most}
 use Rattle.layout.proofs.ReadBack.{read-back}
-use Rattle.problems.specs.Problems.{cardOf, cardsFor, problemCards, readOfProblems}
+use Rattle.problems.specs.Problems.{cardsFor, problemCards, readOfProblems}
 use Rattle.problems.proofs.Made.{as-many, all-sized, too-many, all-whole, sized}
 
 -- the bytes of the problems of cards, one behind the other

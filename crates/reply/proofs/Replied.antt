@@ -1,12 +1,10 @@
 -- A page with room for any deck, in which cards were written or not, has the reply in front once the answer is replied: the deck as it stands, or
 -- the line of the refusal, which is short.
-use mathlib.Core.Path.{_≡_, refl, sym, ap, _∙_}
+use mathlib.Core.Path.{_≡_, refl, sym}
 use mathlib.Core.List.{List, _++_}
 use Prim.Native.Nat.{ℕ, _≤_}
 use native.Mathlib.Omega.{arith}
-use borrow.Author.Tests.{leb-true}
-use lib.Dec.{leb}
-use lib.ListN.{length, take, drop, length-append}
+use lib.ListN.{length, drop, length-append}
 use lib.Seq.{length-take-le, take-append-seam}
 use Rattle.pieces.specs.Pieces.{putIn, endIn}
 use Rattle.pieces.proofs.Puts.{InFront, front, inside, wrote}

@@ -24,4 +24,4 @@ use Rattle.trials.specs.Table.{AllHold, table}
 
 pub all-hold : AllHold table
 unfolding round add sub mul div neg lt le eq ne ofInt ofBits toBits magnitude isNear steps wholeRoot radicand nearestRoot rootOf firstGuess narrowedBy nextGuess hunt searchOf must onward coefficients workedFrom worked functionsAt timeAt unfolded arrivalOf arrivalAt inputsTested rooted radiusOf unitOf testedBy scaledBy scaledOf farEndOf bracketedBy startOf entryOf arrivedAt foundIn keplerOf value valueAt bytesOf wordsBytes kindOf kindNumber sizeOf problemOf unfoldsTo atX solvedCard refusedCard verdictOn entryIn cardsFrom cardsOf entriesFrom bodiesOf deckOf countedAll residualsOf decimal hex cardLines listingOf
-all-hold = (refl, (refl, (refl, (refl, (refl, (refl, (refl, (refl, (refl, (refl, (refl, (refl, (refl, (refl, (refl, (refl, tt))))))))))))))))
+all-hold = (refl, (refl, (refl, (refl, (refl, (refl, (refl, (refl, (refl, (refl, (refl, (refl, (refl, (refl, (refl, (refl, (refl, tt)))))))))))))))))

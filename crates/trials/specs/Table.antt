@@ -2,6 +2,7 @@
 use mathlib.Core.Path.{_≡_}
 use mathlib.Core.List.{List, [], _∷_}
 use Prim.Native.Nat.{ℕ}
+use lib.ListN.{length, take}
 use lib.Ieee.{Float, nan}
 use Rattle.exact.specs.Numbers.{numberOf, nought, one}
 use Rattle.root.specs.Said as root
@@ -32,6 +33,8 @@ pub data Trial : Type 0 where
   -- at x: U1, U2, R and the position
   unfoldsAt : Problem → (x : Float) → (u1 u2 ratio : Float) → Vector → Trial
   keplerGives : Problem → Said → Trial
+  -- the first bytes of the deck of these cards
+  laidOut : List Card → (front : List ℕ) → Trial
   -- a deck's bytes, and its whole listing
   listingGives : (deck listing : List ℕ) → Trial
 
@@ -49,6 +52,7 @@ Holds (rootGives x s) = rootOf x ≡ s
 Holds (startsAt p alpha X) = onward (entryOf p) (λ e. pass (alphaAndFarEnd e)) ≡ pass (alpha, X)
 Holds (unfoldsAt p x u1 u2 ratio r) = onward (entryOf p) (λ e. pass (unfoldedAt x e)) ≡ pass (u1, u2, ratio, r)
 Holds (keplerGives p s) = keplerOf p ≡ s
+Holds (laidOut cards front) = take (length front) (deckOf cards) ≡ front
 Holds (listingGives deck listing) = listingOf deck ≡ listing
 
 abbrev pub AllHold : List Trial → Type 0
@@ -85,8 +89,17 @@ solvedAt position = record {
 abbrev refusedWith : ℕ → Card
 refusedWith k = record { kind = kind.Refused; body = refusedBody (problemBytes (problem (vector one nought nought) nought 20)) k }
 
-abbrev deckA : List ℕ
-deckA = deckOf (solvedAt (vector one nought nought) ∷ refusedWith 7 ∷ solvedAt (vector (numberOf 0x4000_0000_0000_0000) nought nought) ∷ [])
+abbrev cardsOfA : List Card
+cardsOfA = solvedAt (vector one nought nought) ∷ refusedWith 7 ∷ solvedAt (vector (numberOf 0x4000_0000_0000_0000) nought nought) ∷ []
+
+-- its version and count, and its three entries, byte by byte
+abbrev frontOfA : List ℕ
+frontOfA =
+    1 ∷ 0 ∷ 0 ∷ 0 ∷ 3 ∷ 0 ∷ 0 ∷ 0
+    ∷ 1 ∷ 0 ∷ 0 ∷ 0 ∷ 44 ∷ 0 ∷ 0 ∷ 0 ∷ 128 ∷ 0 ∷ 0 ∷ 0
+    ∷ 2 ∷ 0 ∷ 0 ∷ 0 ∷ 172 ∷ 0 ∷ 0 ∷ 0 ∷ 80 ∷ 0 ∷ 0 ∷ 0
+    ∷ 1 ∷ 0 ∷ 0 ∷ 0 ∷ 252 ∷ 0 ∷ 0 ∷ 0 ∷ 128 ∷ 0 ∷ 0 ∷ 0
+    ∷ []
 
 abbrev pub table : List Trial
 table =
@@ -112,5 +125,6 @@ table =
     -- v (1,1,0), dt 20, limit 1
     ∷ keplerGives (problem diagonal (numberOf 0x4034_0000_0000_0000) 1) (refusedWithBracket 10 1 nought (numberOf 0x4034_0000_0000_0000))
     -- deck A
-    ∷ listingGives deckA (text "card 1 solved 0\ncard 2 refused 0\ncard 3 solved 22\nsolved 1 refused 1 rejected 1\nmean 0000000000000000\nworst 0000000000000000\n")
+    ∷ laidOut cardsOfA frontOfA
+    ∷ listingGives (deckOf cardsOfA) (text "card 1 solved 0\ncard 2 refused 0\ncard 3 solved 22\nsolved 1 refused 1 rejected 1\nmean 0000000000000000\nworst 0000000000000000\n")
     ∷ []

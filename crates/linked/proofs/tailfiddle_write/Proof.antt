@@ -1,5 +1,5 @@
 -- `linked::tailfiddle_write` meets its contract: each case of the writer's answer is one case of the definitions, and the buffer is the callee's.
-use mathlib.Core.Path.{_≡_, sym, ap, _∙_}
+use mathlib.Core.Path.{sym, ap, _∙_}
 use borrow.Author.Needs.{needs}
 use Rattle.layout.specs.Written.{said}
 use Rattle.linked.specs.Linked.{refusalNumber, sizeAfter}
