@@ -14,12 +14,15 @@ use Rattle.card.specs.declared.Kind.the-variants as kind
 use Rattle.card.specs.Fields.{Card, problemSize, answerSize, sizeOf, spareOf, lastSpareOf}
 use Rattle.card.specs.Made.{spare, bodyOf, fieldsIn, bodyFrom}
 use Rattle.card.proofs.Packed.{body-back}
-use Rattle.contents.specs.Contents.{entryAt, countOf, cardsFrom, cardsOf}
+use Rattle.contents.specs.Contents.{entryAt, mostCards, countOf, cardsFrom, cardsOf}
 use Rattle.contents.proofs.Cards.{one-more, no-more}
 use Rattle.contents.proofs.Opened.{opened-to}
-use Rattle.layout.specs.Packed.{cleared}
+use Rattle.layout.specs.Layout.{deckOf}
+use Rattle.layout.specs.Packed.{kindsOf, fieldsOf, finishedCards, cleared}
 use Rattle.layout.proofs.Sizes.{AllSized}
-use Rattle.layout.proofs.WriteBack.{sized-from}
+use Rattle.layout.proofs.Packed.{length-kinds, packed-back}
+use Rattle.layout.proofs.WriteBack.{sized-from, cards-sized, write-back}
+use Rattle.layout.proofs.Writing.{few-enough}
 
 -- the spares of a body are 0, and those of each card
 abbrev pub SpareZero : Kind → List ℕ → Type 0
@@ -58,3 +61,10 @@ cleared-from deck (suc left) i at cards b h z =
 
 pub cleared-same : (deck : List ℕ) (cards : List Card) → Bytes deck → cardsOf deck ≡ pass cards → SparesZero cards → map cleared cards ≡ cards
 cleared-same deck cards b h z = cleared-from deck (countOf deck) 0 (entryAt (countOf deck)) cards b (opened-to deck cards h .1) z
+
+-- so reading an accepted deck whose spares are 0 and writing its cards, from their kinds and fields, gives the same bytes
+pub written-again : (deck : List ℕ) (cards : List Card) → Bytes deck → cardsOf deck ≡ pass cards → SparesZero cards → (finishedCards (kindsOf cards) (fieldsOf cards) ≡ pass cards) × (deckOf cards ≡ deck)
+written-again deck cards b h z =
+    let sized = cards-sized deck cards h in
+    let few : length (kindsOf cards) ≤ mostCards = omega (arith, length-kinds cards, sized .0) in
+    (few-enough (kindsOf cards) (fieldsOf cards) few ∙ packed-back cards (sized .1) ∙ ap pass (cleared-same deck cards b h z), write-back deck cards b h)
