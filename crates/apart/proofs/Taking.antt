@@ -1,5 +1,5 @@
--- What taking apart comes to: the deck's refusal, 41, or the cards of an accepted deck for which both lists have room, as lists of 256 places
--- and 124 * 256 bytes have for any deck. What is refused leaves a list as it was, and what is taken stands at its front.
+-- What taking apart comes to: the deck's refusal, 41, or the cards of an accepted deck for which both lists have room, as lists for the most
+-- cards and for as many of the largest fields have for any deck. What is refused leaves a list as it was, and what is taken stands at its front.
 use mathlib.Core.Path.{_≡_, refl, sym, ap, ap₂, subst, _∙_}
 use mathlib.Core.Bool.{Bool, true, false, _&&_, true≢false}
 use mathlib.Core.List.{List, _++_}
@@ -13,7 +13,7 @@ use Rattle.pieces.specs.Pieces.{Put}
 use Rattle.pieces.proofs.Puts.{InFront, stands}
 use Rattle.rows.specs.Rows.{Checked, pass, refuse, must, onward}
 use Rattle.rows.proofs.Laws.{pass-once, test-passed, rows-passed, row-refused}
-use Rattle.card.specs.Fields.{Card}
+use Rattle.card.specs.Fields.{Card, largestFields}
 use Rattle.contents.specs.Contents.{mostCards, countOf, cardsOf, counting}
 use Rattle.contents.proofs.Sizes.{few-cards}
 use Rattle.layout.specs.Packed.{fieldsOf}
@@ -106,7 +106,7 @@ module _ (deck : List ℕ) (places room : ℕ) where
       record { cards = S .0; taken = S .1; fits = fits; as-many = as-many; as-long = as-long; accepted = rw (fits .are) (ap pass (sym (few-cards deck (S .0) (fits .are) .0) ∙ as-many)) }
 
 -- lists with room for any deck take no test
-pub room-for-any : (deck : List ℕ) (places room : ℕ) → mostCards ≤ places → 124 * mostCards ≤ room → apartOf deck places room ≡ cardsOf deck
+pub room-for-any : (deck : List ℕ) (places room : ℕ) → mostCards ≤ places → largestFields * mostCards ≤ room → apartOf deck places room ≡ cardsOf deck
 room-for-any deck places room p r = go (cardsOf deck) refl
   where
     go : (m : Checked (List Card)) → cardsOf deck ≡ m → apartOf deck places room ≡ m

@@ -9,7 +9,7 @@ use Rattle.pieces.specs.Pieces.{Put}
 use Rattle.pieces.proofs.Puts.{puts, none, renamed, at-once, as-long}
 use Rattle.rows.specs.Rows.{pass}
 use Rattle.card.specs.declared.Kind.{Kind}
-use Rattle.card.specs.Fields.{Card, kindNumber, sizeOf, packedSize}
+use Rattle.card.specs.Fields.{Card, kindNumber, sizeOf, packedSize, largestFields}
 use Rattle.card.specs.Made.{fieldsIn}
 use Rattle.card.proofs.Packed.{length-fields, packed-most}
 use Rattle.contents.specs.Contents.{entryAt, countOf, kindAt, cardsOf, counting}
@@ -25,7 +25,7 @@ pub record Summing (deck : List ℕ) (count i sum : ℕ) : Type 0 where
   pub at : ℕ
   pub walk : Walking deck count i at met
   pub sum-is : sum ≡ length (fieldsOf met)
-  pub most : sum ≤ 124 * i
+  pub most : sum ≤ largestFields * i
 
 pub none-summed : (deck : List ℕ) (count : ℕ) → counting (countOf deck) (cardsOf deck) ≡ pass count → Summing deck count 0 0
 unfolding fieldsOf

@@ -9,7 +9,7 @@ use Rattle.words.proofs.Written.{length-bytes}
 use Rattle.conic.specs.Said as conic
 use Rattle.card.specs.declared.Kind.{Kind}
 use Rattle.card.specs.declared.Kind.the-variants as kind
-use Rattle.card.specs.Fields.{sizeOf, problemSize, answerSize, packedSize}
+use Rattle.card.specs.Fields.{sizeOf, problemSize, spareSize, answerSize, packedSize, largestFields}
 use Rattle.card.specs.Made.{spare, bodyOf, fieldsIn, bodyFrom, solvedNumbers, kindFor, answerFor, cardFor}
 use Rattle.card.proofs.Numbers.{length-numbers}
 
@@ -29,13 +29,13 @@ pub length-body : (k : Kind) (f : List ℕ) → length f ≡ packedSize k → le
 length-body k f h = body-size k (take problemSize f) (drop problemSize f) (given-size k f h) (answer-size k f h)
 
 -- a body has room for problem, spare and answer
-pub answer-inside : (k : Kind) → problemSize + 4 + answerSize k ≤ sizeOf k
+pub answer-inside : (k : Kind) → problemSize + spareSize + answerSize k ≤ sizeOf k
 unfolding sizeOf answerSize
 answer-inside kind.Solved = omega arith
 answer-inside kind.Refused = omega arith
 
--- and no kind's fields have more than 124 bytes
-pub packed-most : (k : Kind) → packedSize k ≤ 124
+-- and no kind's fields have more bytes than a solved card's
+pub packed-most : (k : Kind) → packedSize k ≤ largestFields
 unfolding answerSize
 packed-most kind.Solved = omega arith
 packed-most kind.Refused = omega arith
@@ -43,17 +43,17 @@ packed-most kind.Refused = omega arith
 pub length-fields : (k : Kind) (body : List ℕ) → length body ≡ sizeOf k → length (fieldsIn k body) ≡ packedSize k
 length-fields k body h =
     let first : length (take problemSize body) ≡ problemSize = length-take-le problemSize body (omega (arith, h, answer-inside k)) in
-    let left : length (drop (problemSize + 4) body) ≡ length body - (problemSize + 4) = length-drop (problemSize + 4) body in
-    let second : length (take (answerSize k) (drop (problemSize + 4) body)) ≡ answerSize k = length-take-le (answerSize k) (drop (problemSize + 4) body) (omega (arith, h, left, answer-inside k)) in
+    let left : length (drop (problemSize + spareSize) body) ≡ length body - (problemSize + spareSize) = length-drop (problemSize + spareSize) body in
+    let second : length (take (answerSize k) (drop (problemSize + spareSize) body)) ≡ answerSize k = length-take-le (answerSize k) (drop (problemSize + spareSize) body) (omega (arith, h, left, answer-inside k)) in
     length-append (take problemSize body) _ ∙ ap₂ _+_ first second
 
 -- what stands behind the problem's spare begins with the answer
-behind : (k : Kind) (given answer : List ℕ) → length given ≡ problemSize → length answer ≡ answerSize k → take (answerSize k) (drop (problemSize + 4) (bodyOf k given answer)) ≡ answer
+behind : (k : Kind) (given answer : List ℕ) → length given ≡ problemSize → length answer ≡ answerSize k → take (answerSize k) (drop (problemSize + spareSize) (bodyOf k given answer)) ≡ answer
 behind kind.Solved given answer g a =
-    ap (take (answerSize kind.Solved)) (sym (drop-drop 4 problemSize (bodyOf kind.Solved given answer)) ∙ ap (drop 4) (drop-at given (spare ++ answer) problemSize g) ∙ drop-at spare answer 4 (length-bytes 4 0))
+    ap (take (answerSize kind.Solved)) (sym (drop-drop spareSize problemSize (bodyOf kind.Solved given answer)) ∙ ap (drop spareSize) (drop-at given (spare ++ answer) problemSize g) ∙ drop-at spare answer spareSize (length-bytes spareSize 0))
     ∙ take-all (answerSize kind.Solved) answer (omega (arith, a))
 behind kind.Refused given answer g a =
-    ap (take (answerSize kind.Refused)) (sym (drop-drop 4 problemSize (bodyOf kind.Refused given answer)) ∙ ap (drop 4) (drop-at given (spare ++ (answer ++ spare)) problemSize g) ∙ drop-at spare (answer ++ spare) 4 (length-bytes 4 0))
+    ap (take (answerSize kind.Refused)) (sym (drop-drop spareSize problemSize (bodyOf kind.Refused given answer)) ∙ ap (drop spareSize) (drop-at given (spare ++ (answer ++ spare)) problemSize g) ∙ drop-at spare (answer ++ spare) spareSize (length-bytes spareSize 0))
     ∙ take-at answer spare (answerSize kind.Refused) a
 
 begins : (k : Kind) (given answer : List ℕ) → length given ≡ problemSize → take problemSize (bodyOf k given answer) ≡ given

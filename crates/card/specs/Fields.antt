@@ -26,22 +26,34 @@ unfoldable pub kindNumber : Kind → ℕ
 kindNumber kind.Solved = 1
 kindNumber kind.Refused = 2
 
--- The deck 4: the bytes of a problem before its spare
+-- The deck 4: the bytes of a problem before its spare, and those of a spare
 abbrev pub problemSize : ℕ
 problemSize = 68
 
--- The deck 5 and 6: the bytes of an answer, without a spare
+abbrev pub spareSize : ℕ
+spareSize = 4
+
+-- The deck 5 and 6: the bytes of an answer, without a spare; a solved card's is the largest
+abbrev pub largestAnswer : ℕ
+largestAnswer = 56
+
 unfoldable pub answerSize : Kind → ℕ
-answerSize kind.Solved = 56
+answerSize kind.Solved = largestAnswer
 answerSize kind.Refused = 4
 
--- Writing a deck 2: the bytes of a card's fields without a spare
+-- Writing a deck 2: the bytes of a card's fields without a spare, and of the largest
 abbrev pub packedSize : Kind → ℕ
 packedSize kind = problemSize + answerSize kind
 
--- The deck 5 and 6: the bytes of a body
+abbrev pub largestFields : ℕ
+largestFields = problemSize + largestAnswer
+
+-- The deck 5 and 6: the bytes of a body; a solved card's is the largest
+abbrev pub largestBody : ℕ
+largestBody = 128
+
 unfoldable pub sizeOf : Kind → ℕ
-sizeOf kind.Solved = 128
+sizeOf kind.Solved = largestBody
 sizeOf kind.Refused = 80
 
 -- the number that stands in a body from index `at` on, and a vector of three

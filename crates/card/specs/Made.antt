@@ -11,7 +11,7 @@ use Rattle.conic.specs.declared.Problem.{Problem}
 use Rattle.conic.specs.Said as conic
 use Rattle.card.specs.declared.Kind.{Kind}
 use Rattle.card.specs.declared.Kind.the-variants as kind
-use Rattle.card.specs.Fields.{Card, problemSize, answerSize}
+use Rattle.card.specs.Fields.{Card, problemSize, spareSize, answerSize}
 
 -- numbers as words of eight bytes
 abbrev pub numbersBytes : List Float → List ℕ
@@ -21,9 +21,9 @@ numbersBytes l = wordsBytes (map wordOf l)
 abbrev pub problemBytes : Problem → List ℕ
 problemBytes p = numbersBytes (p .mu ∷ p .r .x ∷ p .r .y ∷ p .r .z ∷ p .v .x ∷ p .v .y ∷ p .v .z ∷ p .dt ∷ []) ++ bytesOf 4 (p .limit)
 
--- a spare: four bytes that are 0
+-- a spare: bytes that are 0
 abbrev pub spare : List ℕ
-spare = bytesOf 4 0
+spare = bytesOf spareSize 0
 
 -- The deck 4 to 6: a body: the problem, its spare, the answer, and the last spare of a refused card
 abbrev pub bodyOf : Kind → (given answer : List ℕ) → List ℕ
@@ -32,7 +32,7 @@ bodyOf kind.Refused given answer = given ++ (spare ++ (answer ++ spare))
 
 -- Writing a deck 2: the fields in a body, without its spares; and the body that has these fields
 abbrev pub fieldsIn : Kind → (body : List ℕ) → List ℕ
-fieldsIn kind body = take problemSize body ++ take (answerSize kind) (drop (problemSize + 4) body)
+fieldsIn kind body = take problemSize body ++ take (answerSize kind) (drop (problemSize + spareSize) body)
 
 abbrev pub bodyFrom : Kind → (fields : List ℕ) → List ℕ
 bodyFrom kind fields = bodyOf kind (take problemSize fields) (drop problemSize fields)

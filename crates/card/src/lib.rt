@@ -10,11 +10,16 @@ ghost use Prim.Native.Nat.{_≤_};
 ghost use Rattle.card.specs.Fields.{kindOf, kindNumber, sizeOf, packedSize, numberAt, vectorAt, problemOf};
 ghost use Rattle.card.specs.Said.{named};
 
-// A problem's bytes, and where the fields of a body begin behind them: the problem's spare; of a
-// solved card x, position and velocity; of a refused one the number and a spare.
+// A problem's bytes; those of a body and of its fields without a spare, at most: a solved card's.
 pub const PROBLEM: usize = 68;
 
-pub const SPARE: usize = 68;
+pub const BODY: usize = 128;
+
+pub const FIELDS: usize = 124;
+
+// Where the fields of a body begin behind the problem: its spare; of a solved card x, position and
+// velocity; of a refused one the number and a spare.
+pub const SPARE: usize = PROBLEM;
 
 pub const X: usize = 72;
 
@@ -53,7 +58,7 @@ impl Kind {
         ensures { λ r. ⌜ r ≡ packedSize self ⌝ }
     {
         match self {
-            Kind::Solved => 124,
+            Kind::Solved => FIELDS,
             Kind::Refused => 72,
         }
     }
@@ -63,7 +68,7 @@ impl Kind {
         ensures { λ r. ⌜ r ≡ sizeOf self ⌝ }
     {
         match self {
-            Kind::Solved => 128,
+            Kind::Solved => BODY,
             Kind::Refused => 80,
         }
     }

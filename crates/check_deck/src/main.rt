@@ -8,7 +8,7 @@ ghost use Rattle.contents.specs.Contents.{readOfADeck};
 ghost use Rattle.listing.specs.Listing.{listingOf};
 
 // One byte more than the largest deck has: what is longer has bytes left over, or is refused before.
-const MOST: usize = 35849;
+const MOST: usize = contents::LARGEST_DECK + 1;
 
 fn main() {
     let mut space = io::large_buffer();

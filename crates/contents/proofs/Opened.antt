@@ -9,7 +9,7 @@ use lib.ListN.{length}
 use Rattle.rows.specs.Rows.{pass, must, onward}
 use Rattle.rows.proofs.Laws.{pass-once, test-passed, rows-passed}
 use Rattle.card.specs.Fields.{Card}
-use Rattle.contents.specs.Contents.{entryAt, theVersion, mostCards, versionOf, countOf, cardsFrom, cardsOf, counting, Passes}
+use Rattle.contents.specs.Contents.{headerSize, entryAt, theVersion, mostCards, versionOf, countOf, cardsFrom, cardsOf, counting, Passes}
 use Rattle.contents.proofs.Cards.{KindsFrom, kinds-named}
 
 pub record Opened (deck : List ℕ) (count : ℕ) : Type 0 where
@@ -27,9 +27,9 @@ opened deck count h =
     let is : countOf deck ≡ count = pass-once (P .2) in
     let n = countOf deck in
     let cards = cardsFrom deck n 0 (entryAt n) in
-    let first = test-passed (leb 8 (length deck)) 30 (must (eqb (versionOf deck) 1) 31 (must (leb n 256) 32 (must (leb (entryAt n) (length deck)) 33 cards))) (P .1) in
-    let second = test-passed (eqb (versionOf deck) 1) 31 (must (leb n 256) 32 (must (leb (entryAt n) (length deck)) 33 cards)) (first .1) in
-    let third = test-passed (leb n 256) 32 (must (leb (entryAt n) (length deck)) 33 cards) (second .1) in
+    let first = test-passed (leb headerSize (length deck)) 30 (must (eqb (versionOf deck) theVersion) 31 (must (leb n mostCards) 32 (must (leb (entryAt n) (length deck)) 33 cards))) (P .1) in
+    let second = test-passed (eqb (versionOf deck) theVersion) 31 (must (leb n mostCards) 32 (must (leb (entryAt n) (length deck)) 33 cards)) (first .1) in
+    let third = test-passed (leb n mostCards) 32 (must (leb (entryAt n) (length deck)) 33 cards) (second .1) in
     let fourth = test-passed (leb (entryAt n) (length deck)) 33 cards (third .1) in
     rw (← is) (record {
       is = refl;

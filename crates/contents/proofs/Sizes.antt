@@ -13,29 +13,29 @@ use Rattle.words.proofs.Written.{valueAt-front}
 use Rattle.rows.specs.Rows.{Checked, pass, must, onward}
 use Rattle.rows.proofs.Laws.{test-passed}
 use Rattle.card.specs.declared.Kind.{Kind}
-use Rattle.card.specs.Fields.{Card, sizeOf}
+use Rattle.card.specs.Fields.{Card, sizeOf, largestBody}
 use Rattle.card.proofs.Sizes.{size-most}
-use Rattle.contents.specs.Contents.{entryAt, versionOf, countOf, entryIn, cardsFrom, cardsOf, largestDeck, readOfADeck}
+use Rattle.contents.specs.Contents.{headerSize, entryAt, theVersion, mostCards, versionOf, countOf, entryIn, cardsFrom, cardsOf, largestDeck, readOfADeck}
 use Rattle.contents.proofs.Cards.{cardAt, one-more, as-many}
 use Rattle.contents.proofs.Opened.{opened-to}
 
 -- ---- the largest deck
 
--- after the last body the deck ends, so `left` bodies from `at` on leave no more than 128 bytes for each
-ends-by : (deck : List ℕ) (left i at : ℕ) (cards : List Card) → cardsFrom deck left i at ≡ pass cards → length deck ≤ at + 128 * left
+-- after the last body the deck ends, so `left` bodies from `at` on leave no more bytes for each than the largest body has
+ends-by : (deck : List ℕ) (left i at : ℕ) (cards : List Card) → cardsFrom deck left i at ≡ pass cards → length deck ≤ at + largestBody * left
 unfolding cardsFrom
 ends-by deck zero i at cards h = omega (arith, eqb-true at (length deck) (test-passed (eqb at (length deck)) 38 (pass []) h .0))
 ends-by deck (suc left) i at cards h =
     let m = one-more deck left i at cards h in
     omega (arith, ends-by deck left (i + 1) (at + sizeOf (m .kind)) (m .rest) (m .others), size-most (m .kind))
 
--- an accepted deck has as many cards as it counts, at most 256
-pub few-cards : (deck : List ℕ) (cards : List Card) → cardsOf deck ≡ pass cards → (length cards ≡ countOf deck) × (countOf deck ≤ 256)
+-- an accepted deck has as many cards as it counts, and no more than a deck may have
+pub few-cards : (deck : List ℕ) (cards : List Card) → cardsOf deck ≡ pass cards → (length cards ≡ countOf deck) × (countOf deck ≤ mostCards)
 few-cards deck cards h =
     let o = opened-to deck cards h in
     (as-many deck (countOf deck) 0 (entryAt (countOf deck)) cards (o .1), o .0 .most)
 
--- and no more bytes than 256 of the largest cards
+-- and no more bytes than with as many of the largest cards
 pub largest : (deck : List ℕ) (cards : List Card) → cardsOf deck ≡ pass cards → length deck ≤ largestDeck
 largest deck cards h =
     let o = opened-to deck cards h in
@@ -55,20 +55,20 @@ module _ (front rest : List ℕ) where
   same-test n h = le-leb n (length (front ++ rest)) (simp length-append (omega arith)) ∙ sym (le-leb n (length front) h)
 
   -- an entry within the front, with a body within it
-  same-entry : (i at : ℕ) → entryAt (i + 1) ≤ length front → at + 128 ≤ length front → entryIn (front ++ rest) i at ≡ entryIn front i at
+  same-entry : (i at : ℕ) → entryAt (i + 1) ≤ length front → at + largestBody ≤ length front → entryIn (front ++ rest) i at ≡ entryIn front i at
   unfolding entryIn
   same-entry i at e b =
       let inside : (kind : Kind) → leb (at + sizeOf kind) (length (front ++ rest)) ≡ leb (at + sizeOf kind) (length front) = λ kind. same-test (at + sizeOf kind) (omega (arith, size-most kind)) in
       simp (valueAt-front 4 front rest (entryAt i) (omega arith), valueAt-front 4 front rest (entryAt i + 4) (omega arith), valueAt-front 4 front rest (entryAt i + 8) (omega arith), inside)
 
   -- its card
-  same-card : (kind : Kind) (at : ℕ) → at + 128 ≤ length front → cardAt (front ++ rest) kind at ≡ cardAt front kind at
+  same-card : (kind : Kind) (at : ℕ) → at + largestBody ≤ length front → cardAt (front ++ rest) kind at ≡ cardAt front kind at
   same-card kind at b =
       let room : sizeOf kind ≤ length (drop at front) = simp length-drop (omega (arith, size-most kind)) in
       ap (λ (body : List ℕ). record { kind = kind; body = body }) (ap (take (sizeOf kind)) (drop-append-le at front rest (omega arith)) ∙ take-append-le (sizeOf kind) (drop at front) rest room)
 
   -- entries within the front, with bodies within it and a byte behind them
-  same-cards : (left i at : ℕ) → entryAt (i + left) ≤ length front → at + 128 * left < length front → cardsFrom (front ++ rest) left i at ≡ cardsFrom front left i at
+  same-cards : (left i at : ℕ) → entryAt (i + left) ≤ length front → at + largestBody * left < length front → cardsFrom (front ++ rest) left i at ≡ cardsFrom front left i at
   unfolding cardsFrom
   same-cards zero i at e b = rw (ne-eqb at (length (front ++ rest)) (simp length-append (omega arith)), ne-eqb at (length front) (omega arith)) refl
   same-cards (suc left) i at e b =
@@ -82,7 +82,7 @@ module _ (front rest : List ℕ) where
   unfolding cardsOf
   read-is-enough h =
       let n = countOf front in
-      rw (valueAt-front 4 front rest 0 (omega arith), valueAt-front 4 front rest 4 (omega arith), same-test 8 (omega arith))
-      (ap (λ (m : Checked (List Card)). must (leb 8 (length front)) 30 (must (eqb (versionOf front) 1) 31 m)) (behind-a-test (leb n 256) 32 _ _ (λ few.
-      let most = leb-true n 256 few in
+      rw (valueAt-front 4 front rest 0 (omega arith), valueAt-front 4 front rest 4 (omega arith), same-test headerSize (omega arith))
+      (ap (λ (m : Checked (List Card)). must (leb headerSize (length front)) 30 (must (eqb (versionOf front) theVersion) 31 m)) (behind-a-test (leb n mostCards) 32 _ _ (λ few.
+      let most = leb-true n mostCards few in
       ap₂ (λ (t : Bool) (m : Checked (List Card)). must t 33 m) (same-test (entryAt n) (omega arith)) (same-cards n 0 (entryAt n) (omega arith) (omega arith)))))

@@ -6,7 +6,7 @@ use lib.ListN.{length, take, drop}
 use Rattle.words.specs.Words.{valueAt}
 use Rattle.rows.specs.Rows.{Checked, pass, refuse, must, onward}
 use Rattle.card.specs.declared.Kind.{Kind}
-use Rattle.card.specs.Fields.{Card, kindOf, sizeOf}
+use Rattle.card.specs.Fields.{Card, kindOf, sizeOf, largestBody}
 
 -- The deck 1 to 3: version and count, then an entry of three u32 for each card: where entry i begins, and the bodies after the last one
 abbrev pub headerSize : ℕ
@@ -79,7 +79,7 @@ Passes (refuse k) = ⊥
 
 -- The deck 7: the bytes of the largest deck; and The check program's listing 1: what is read of a deck, one byte more
 abbrev pub largestDeck : ℕ
-largestDeck = 35848
+largestDeck = headerSize + mostCards * (entrySize + largestBody)
 
 abbrev pub readOfADeck : ℕ
 readOfADeck = largestDeck + 1

@@ -16,7 +16,10 @@ pub const ENTRY: usize = 12;
 
 pub const VERSION: u32 = 1;
 
-pub const MOST_CARDS: u32 = 256;
+// The most cards, and the bytes of the largest deck.
+pub const MOST_CARDS: usize = 256;
+
+pub const LARGEST_DECK: usize = HEADER + MOST_CARDS * (ENTRY + card::BODY);
 
 // Why a deck is refused, or is not written. ListTooShort is of the verdict list, which `deck` is lent;
 // the last three are of the crates that write decks.
@@ -82,7 +85,7 @@ pub fn tested(deck: &[u8]) -> Contents
         return Contents::Refused(Reason::OtherVersion);
     }
     let count = words::half(deck, 4);
-    if MOST_CARDS < count {
+    if MOST_CARDS < count as usize {
         return Contents::Refused(Reason::TooManyCards);
     }
     if deck.len() < HEADER + ENTRY * count as usize {

@@ -7,7 +7,7 @@ use native.Mathlib.Omega.{arith}
 use lib.ListN.{length, take}
 use Rattle.pieces.proofs.Puts.{InFront}
 use Rattle.rows.specs.Rows.{pass, refuse, onward}
-use Rattle.card.specs.Fields.{Card}
+use Rattle.card.specs.Fields.{Card, largestFields}
 use Rattle.contents.specs.Contents.{mostCards, cardsOf}
 use Rattle.layout.specs.Packed.{kindsOf, fieldsOf, finishedCards, cleared}
 use Rattle.layout.proofs.Packed.{length-kinds, packed-back}
@@ -17,7 +17,7 @@ use Rattle.apart.specs.Apart.{apartOf, sizesOf, withTaken}
 use Rattle.apart.proofs.Taking.{refused, taken-apart, room-for-any, in-front}
 use Rattle.copier.specs.Copy.{copyOf}
 
-pub copy-refused : (deck : List ℕ) {places room k : ℕ} → refuse k ≡ sizesOf (apartOf deck places room) → mostCards ≤ places → 124 * mostCards ≤ room → copyOf deck ≡ refuse k
+pub copy-refused : (deck : List ℕ) {places room k : ℕ} → refuse k ≡ sizesOf (apartOf deck places room) → mostCards ≤ places → largestFields * mostCards ≤ room → copyOf deck ≡ refuse k
 unfolding copyOf onward
 copy-refused deck {places} {room} e p r = rw (sym (room-for-any deck places room p r) ∙ refused deck places room e) refl
 

@@ -13,7 +13,7 @@ pub fn copy(deck: &[u8], buffer: &mut [u8]) -> Written
     ensures { λ r. ⌜ said r ≡ lengthFor (copyOf (now (deck .entry))) (length (now (buffer .entry))) ⌝ }
     ensures { λ r. ⌜ now (buffer .exit) ≡ bufferAfter (copyOf (now (deck .entry))) (now (buffer .entry)) ⌝ }
 {
-    let mut kinds = [0u32; layout::CARDS];
+    let mut kinds = [0u32; contents::MOST_CARDS];
     let mut fields = [0u8; layout::FIELDS];
     match apart::take(deck, &mut kinds, &mut fields) {
         Apart::Refused(why) => Written::Refused(why),

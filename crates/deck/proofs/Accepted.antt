@@ -13,9 +13,9 @@ use lib.Seq.{take-at, drop-at}
 use Rattle.rows.specs.Rows.{Checked, pass, refuse, must, onward}
 use Rattle.rows.proofs.Laws.{pass-once, test-passed, rows-passed}
 use Rattle.card.specs.Fields.{Card}
-use Rattle.contents.specs.Contents.{countOf, cardsOf}
+use Rattle.contents.specs.Contents.{mostCards, countOf, cardsOf}
 use Rattle.contents.proofs.Sizes.{few-cards}
-use Rattle.verdict.specs.Said.{Said, numberIn}
+use Rattle.ruling.specs.Said.{Said, numberIn}
 use Rattle.verdict.specs.Verdict.{verdictOn}
 use Rattle.deck.specs.declared.Totals.{Totals}
 use Rattle.deck.specs.Tally.{Residuals, tallyOf}
@@ -28,7 +28,7 @@ pub record Accepted (deck : List ℕ) (room : ℕ) (verdicts : List Said) : Type
   pub cards : List Card
   pub cards-are : cardsOf deck ≡ pass cards
   pub verdicts-are : verdicts ≡ verdictsOf cards
-  pub few : countOf deck ≤ 256
+  pub few : countOf deck ≤ mostCards
   pub enough : countOf deck ≤ room
   pub as-many-verdicts : length verdicts ≡ countOf deck
 
@@ -51,7 +51,7 @@ accepted-means deck room verdicts h =
 -- the three totals add up to the count, which the list has room for
 pub record TotalsFit (deck : List ℕ) (room : ℕ) (totals : Totals) : Type 0 where
   pub add-up : totals .solved + totals .refused + totals .rejected ≡ countOf deck
-  pub few : countOf deck ≤ 256
+  pub few : countOf deck ≤ mostCards
   pub enough : countOf deck ≤ room
 
 pub totals-fit : (deck : List ℕ) (room : ℕ) (totals : Totals) (r : Residuals) → answerOf deck room ≡ pass (totals, r) → TotalsFit deck room totals
@@ -109,7 +109,7 @@ pub record Answered (deck list : List ℕ) (totals : Totals) (r : Residuals) : T
   pub cards-are : cardsOf deck ≡ pass cards
   pub tally : tallyOf (verdictsOf cards) ≡ (totals, r)
   pub as-many : totals .solved + totals .refused + totals .rejected ≡ length cards
-  pub few : length cards ≤ 256
+  pub few : length cards ≤ mostCards
   pub numbers : listAfter deck list ≡ numbersOf cards ++ drop (length (verdictsOf cards)) list
 
 pub answered : (deck list : List ℕ) (totals : Totals) (r : Residuals) → answerOf deck (length list) ≡ pass (totals, r) → Answered deck list totals r
@@ -134,6 +134,6 @@ unfolding onward must
 never-short count room k (pass cards) h e = let passed = rw (le-leb count room (h cards refl)) at e in absurd (true≢false cc)
 never-short count room k (refuse n) h e = cc
 
-pub refused-contents : (deck : List ℕ) (room k : ℕ) → 256 ≤ room → answerOf deck room ≡ refuse k → cardsOf deck ≡ refuse k
+pub refused-contents : (deck : List ℕ) (room k : ℕ) → mostCards ≤ room → answerOf deck room ≡ refuse k → cardsOf deck ≡ refuse k
 unfolding answerOf judgedOf
 refused-contents deck room k h e = never-short (countOf deck) room k (cardsOf deck) (λ cards is. omega (arith, few-cards deck cards is .1)) e

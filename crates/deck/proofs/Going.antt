@@ -16,7 +16,7 @@ use Rattle.card.specs.declared.Kind.{Kind}
 use Rattle.card.specs.Fields.{Card, sizeOf}
 use Rattle.contents.specs.Contents.{entryAt, entryIn, cardsFrom, Passes}
 use Rattle.contents.proofs.Cards.{cardAt, one-more, come-to-cards, no-more, as-many}
-use Rattle.verdict.specs.Said.{Said, numberIn}
+use Rattle.ruling.specs.Said.{Said, numberIn}
 use Rattle.verdict.specs.Verdict.{verdictOn}
 use Rattle.deck.specs.declared.tally.Running.{Running}
 use Rattle.deck.specs.Tally.{nothing, counted, countedAll, residualsOf, totalsOf}

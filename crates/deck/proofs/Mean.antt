@@ -12,7 +12,7 @@ use Rattle.exact.proofs.Rounding.{round-minus}
 use Rattle.exact.proofs.Signs.{add-plus, div-plus}
 use Rattle.exact.proofs.Zero.{nought-plus}
 use Rattle.rows.specs.Rows.{pass}
-use Rattle.verdict.specs.Said.{Said, solved, refused, rejected}
+use Rattle.ruling.specs.Said.{Said, solved, refused, rejected}
 use Rattle.deck.specs.declared.tally.Running.{Running}
 use Rattle.deck.specs.Tally.{nothing, counted, countedAll, known, residualsOf}
 use Rattle.deck.specs.Check.{judgedOf}

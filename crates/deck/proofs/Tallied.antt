@@ -13,7 +13,7 @@ use lib.ListN.{length}
 use lib.IntN.{pos}
 use lib.Ieee.{Float, binary64, ofInt}
 use Rattle.exact.specs.Numbers.{_⊘_}
-use Rattle.verdict.specs.Said.{Said, solved, refused, rejected}
+use Rattle.ruling.specs.Said.{Said, solved, refused, rejected}
 use Rattle.deck.specs.declared.tally.Running.{Running}
 use Rattle.deck.specs.Tally.{nothing, counted, countedAll, absent, known, residualsOf}
 

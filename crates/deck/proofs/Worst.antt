@@ -17,7 +17,7 @@ use Rattle.exact.proofs.Signs.{Plus}
 use Rattle.exact.proofs.Zero.{nought-number, nought-steps, nought-plus}
 use Rattle.rows.specs.Rows.{pass}
 use Rattle.card.specs.Fields.{Card}
-use Rattle.verdict.specs.Said.{Said, solved, refused, rejected}
+use Rattle.ruling.specs.Said.{Said, solved, refused, rejected}
 use Rattle.verdict.specs.Verdict.{verdictOn}
 use Rattle.verdict.proofs.Accepted.{residual-plus}
 use Rattle.deck.specs.declared.tally.Running.{Running}

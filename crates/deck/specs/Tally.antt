@@ -6,7 +6,7 @@ use lib.IntN.{pos}
 use lib.Dec.{eqb}
 use lib.Ieee.{Float, binary64, lt, ofInt}
 use Rattle.exact.specs.Numbers.{_⊕_, _⊘_, nought}
-use Rattle.verdict.specs.Said.{Said, solved, refused, rejected}
+use Rattle.ruling.specs.Said.{Said, solved, refused, rejected}
 use Rattle.deck.specs.declared.Totals.{Totals}
 use Rattle.deck.specs.declared.tally.Running.{Running}
 

@@ -10,12 +10,12 @@ use contents::ENTRY;
 use contents::Entry;
 use contents::HEADER;
 use contents::Reason;
-use verdict::Verdict;
+use ruling::Verdict;
 ghost use mathlib.Core.Path.{_≡_};
 ghost use Prim.Native.Nat.{_≤_, _<_};
 ghost use lib.ListN.{length, set};
-ghost use Rattle.contents.specs.Contents.{entryAt, cardsFrom, Passes};
-ghost use Rattle.verdict.specs.Said as judge;
+ghost use Rattle.contents.specs.Contents.{entryAt, mostCards, cardsFrom, Passes};
+ghost use Rattle.ruling.specs.Said as judge;
 ghost use Rattle.verdict.specs.Verdict.{verdictOn};
 ghost use Rattle.deck.specs.Said.{said};
 ghost use Rattle.deck.specs.Check.{judgedFrom, tallied, answerOf, written, listAfter};
@@ -59,7 +59,7 @@ pub fn check(deck: &[u8], verdicts: &mut [u32]) -> Answer
 
 // A verdict for each card of a deck whose contents passed, and the tally. No entry is refused here.
 fn judged(deck: &[u8], count: u32, verdicts: &mut [u32]) -> Answer
-    requires { ⌜ (count ≤ 256) × (count ≤ length (now verdicts)) ⌝ }
+    requires { ⌜ (count ≤ mostCards) × (count ≤ length (now verdicts)) ⌝ }
     requires { ⌜ Passes (cardsFrom (now deck) count 0 (entryAt count)) ⌝ }
     ensures { λ r. ⌜ said r ≡ tallied (judgedFrom (now (deck .entry)) count) ⌝ }
     ensures { λ r. ⌜ now (verdicts .exit) ≡ written (judgedFrom (now (deck .entry)) count) (now (verdicts .entry)) ⌝ }

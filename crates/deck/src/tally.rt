@@ -3,11 +3,12 @@
 use crate::Answer;
 use crate::Residuals;
 use crate::Totals;
-use verdict::Verdict;
+use ruling::Verdict;
 ghost use mathlib.Core.Path.{_≡_};
 ghost use Prim.Native.Nat.{_+_, _<_};
 ghost use Rattle.rows.specs.Rows.{pass};
-ghost use Rattle.verdict.specs.Said as judge;
+ghost use Rattle.contents.specs.Contents.{mostCards};
+ghost use Rattle.ruling.specs.Said as judge;
 ghost use Rattle.deck.specs.Said.{said};
 ghost use Rattle.deck.specs.Tally.{nothing, larger, counted, meanResidual, residualsOf, totalsOf};
 
@@ -33,7 +34,7 @@ pub(crate) fn none() -> Running
 }
 
 pub(crate) fn with(running: Running, verdict: Verdict) -> Running
-    requires { ⌜ running .solved + running .refused + running .rejected < 256 ⌝ }
+    requires { ⌜ running .solved + running .refused + running .rejected < mostCards ⌝ }
     ensures { λ r. ⌜ r ≡ counted running (judge.said verdict) ⌝ }
 {
     let mut next = running;

@@ -11,7 +11,7 @@ use Rattle.words.proofs.Standing.{stands, number-stands, bytes-first}
 use Rattle.rows.specs.Rows.{pass}
 use Rattle.card.specs.declared.Kind.{Kind}
 use Rattle.card.specs.declared.Kind.the-variants as kind
-use Rattle.card.specs.Fields.{Card, problemSize, answerSize, sizeOf, spareOf, lastSpareOf}
+use Rattle.card.specs.Fields.{Card, problemSize, spareSize, largestAnswer, answerSize, sizeOf, spareOf, lastSpareOf}
 use Rattle.card.specs.Made.{spare, bodyOf, fieldsIn, bodyFrom}
 use Rattle.card.proofs.Packed.{body-back}
 use Rattle.contents.specs.Contents.{entryAt, mostCards, countOf, cardsFrom, cardsOf}
@@ -34,8 +34,8 @@ SparesZero [] = Unit
 SparesZero (c ∷ cards) = SpareZero (c .kind) (c .body) × SparesZero cards
 
 -- the fields of a body come apart again
-fields-apart : (kind : Kind) (body : List ℕ) → problemSize ≤ length body → bodyFrom kind (fieldsIn kind body) ≡ bodyOf kind (take problemSize body) (take (answerSize kind) (drop (problemSize + 4) body))
-fields-apart kind body long = body-back kind (take problemSize body) (take (answerSize kind) (drop (problemSize + 4) body)) (length-take-le problemSize body long)
+fields-apart : (kind : Kind) (body : List ℕ) → problemSize ≤ length body → bodyFrom kind (fieldsIn kind body) ≡ bodyOf kind (take problemSize body) (take (answerSize kind) (drop (problemSize + spareSize) body))
+fields-apart kind body long = body-back kind (take problemSize body) (take (answerSize kind) (drop (problemSize + spareSize) body)) (length-take-le problemSize body long)
 
 pub body-cleared : (kind : Kind) (body : List ℕ) → length body ≡ sizeOf kind → Bytes body → SpareZero kind body → bodyFrom kind (fieldsIn kind body) ≡ body
 unfolding sizeOf answerSize

@@ -6,7 +6,7 @@ use native.Mathlib.Omega.{arith}
 use lib.ListN.{length, length-append, length-map}
 use Rattle.words.proofs.Written.{length-bytes}
 use Rattle.card.specs.declared.Kind.{Kind}
-use Rattle.card.specs.Fields.{Card, sizeOf}
+use Rattle.card.specs.Fields.{Card, sizeOf, largestBody, largestFields}
 use Rattle.card.specs.Made.{fieldsIn}
 use Rattle.card.proofs.Sizes.{size-most}
 use Rattle.card.proofs.Packed.{length-fields, packed-most}
@@ -35,18 +35,18 @@ unfolding deckOf
 length-deck cards = length-append (contentsOf (length cards) (kindsIn cards)) (bodiesOf cards) ∙ ap (λ (n : ℕ). n + length (bodiesOf cards)) (length-contents cards)
 
 -- no more than with as many of the largest cards, and no more than the largest deck's
-bodies-most : (cards : List Card) → AllSized cards → length (bodiesOf cards) ≤ 128 * length cards
+bodies-most : (cards : List Card) → AllSized cards → length (bodiesOf cards) ≤ largestBody * length cards
 unfolding bodiesOf
 bodies-most [] w = omega arith
 bodies-most (c ∷ cards) w = simp length-append (omega (arith, w .0, size-most (c .kind), bodies-most cards (w .1)))
 
-pub deck-within : (cards : List Card) → AllSized cards → length (deckOf cards) ≤ headerSize + length cards * (entrySize + 128)
+pub deck-within : (cards : List Card) → AllSized cards → length (deckOf cards) ≤ headerSize + length cards * (entrySize + largestBody)
 deck-within cards w = omega (arith, length-deck cards, bodies-most cards w)
 
 pub deck-most : (cards : List Card) → length cards ≤ mostCards → AllSized cards → length (deckOf cards) ≤ largestDeck
 deck-most cards h w = omega (arith, deck-within cards w)
 
-pub fields-most : (cards : List Card) → AllSized cards → length (fieldsOf cards) ≤ 124 * length cards
+pub fields-most : (cards : List Card) → AllSized cards → length (fieldsOf cards) ≤ largestFields * length cards
 unfolding fieldsOf
 fields-most [] w = omega arith
 fields-most (c ∷ cards) w = omega (arith, length-append (fieldsIn (c .kind) (c .body)) (fieldsOf cards), length-fields (c .kind) (c .body) (w .0), packed-most (c .kind), fields-most cards (w .1))

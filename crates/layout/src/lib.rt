@@ -15,12 +15,8 @@ ghost use Rattle.card.specs.Made.{bodyFrom};
 ghost use Rattle.contents.specs.Contents.{entryAt, mostCards, largestDeck};
 ghost use Rattle.layout.specs.Layout.{entryFor, entriesFrom, namedIn, contentsFor};
 
-// The most cards of a deck, the bytes of their fields where all are solved, and those of the deck.
-pub const CARDS: usize = 256;
-
-pub const FIELDS: usize = 31744;
-
-pub const DECK: usize = 35848;
+// The most bytes that the fields of a deck's cards have.
+pub const FIELDS: usize = contents::MOST_CARDS * card::FIELDS;
 
 // The length of the deck that was written, or why none was.
 pub enum Written {
@@ -35,7 +31,7 @@ pub fn put_contents(kinds: &[u32], out: &mut [u8]) -> usize
     ensures { λ r. ⌜ r ≡ endIn (now (out .entry)) 0 (contentsFor (now (kinds .entry))) ⌝ }
     ensures { λ r. ⌜ now (out .exit) ≡ putIn (now (out .entry)) 0 (contentsFor (now (kinds .entry))) ⌝ }
 {
-    if CARDS < kinds.len() {
+    if contents::MOST_CARDS < kinds.len() {
         return 0;
     }
     let version = words::put_half(out, 0, contents::VERSION);

@@ -39,11 +39,6 @@ abbrev pub meanIn : Checked (Totals × Residuals) → Float
 meanIn (pass tally) = meanOf (tally .1)
 meanIn (refuse k) = minusNumber k
 
--- the number of a writer's refusal; 0 where the deck is written, which is no refusal's number
-abbrev pub refusalNumber : Checked ℕ → ℕ
-refusalNumber (pass size) = 0
-refusalNumber (refuse k) = k
-
 -- what a lent size becomes: the deck's length (RULES, Writing a deck 4); a refusal leaves it
 abbrev pub sizeAfter : Checked ℕ → ℕ → ℕ
 sizeAfter (pass size) lent = size

@@ -10,13 +10,14 @@ use deck::Residuals;
 use layout::Written;
 ghost use mathlib.Core.Path.{_≡_};
 ghost use lib.ListN.{length};
+ghost use Rattle.rows.specs.Rows.{refusalIn};
 ghost use Rattle.card.specs.Fields.{problemOf};
 ghost use Rattle.kepler.specs.Kepler.{keplerOf};
 ghost use Rattle.deck.specs.Said as deck;
 ghost use Rattle.deck.specs.Check.{answerOf, listAfter};
 ghost use Rattle.layout.specs.Written.{lengthFor, bufferAfter};
 ghost use Rattle.problems.specs.Problems.{problemCards};
-ghost use Rattle.linked.specs.Linked.{outcomeNumber, stateSum, sumAfter, minusNumber, meanIn, refusalNumber, sizeAfter};
+ghost use Rattle.linked.specs.Linked.{outcomeNumber, stateSum, sumAfter, minusNumber, meanIn, sizeAfter};
 
 // Kepler on the problem with which the bytes begin. Where it is solved the answer is 0, and `sum`
 // becomes x + rx + ry + rz + vx + vy + vz; else the refusal's number, and `sum` stays as it was lent.
@@ -50,7 +51,7 @@ pub extern "C" fn tailfiddle_check(deck: &[u8], verdicts: &mut [u32]) -> f64
 // `size` stay as they were lent.
 #[no_mangle]
 pub extern "C" fn tailfiddle_write(problems: &[u8], buffer: &mut [u8], size: &mut usize) -> u32
-    ensures { λ r. ⌜ r ≡ refusalNumber (lengthFor (problemCards (now (problems .entry))) (length (now (buffer .entry)))) ⌝ }
+    ensures { λ r. ⌜ r ≡ refusalIn (lengthFor (problemCards (now (problems .entry))) (length (now (buffer .entry)))) ⌝ }
     ensures { λ _. ⌜ now (buffer .exit) ≡ bufferAfter (problemCards (now (problems .entry))) (now (buffer .entry)) ⌝ }
     ensures { λ _. ⌜ now (size .exit) ≡ sizeAfter (lengthFor (problemCards (now (problems .entry))) (length (now (buffer .entry)))) (now (size .entry)) ⌝ }
 {

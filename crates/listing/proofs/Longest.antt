@@ -17,9 +17,9 @@ use Rattle.rows.specs.Rows.{Checked, pass, refuse}
 use Rattle.card.specs.declared.Kind.{Kind}
 use Rattle.card.specs.declared.Kind.the-variants as kind
 use Rattle.card.specs.Fields.{Card}
-use Rattle.contents.specs.Contents.{cardsOf, readOfADeck}
+use Rattle.contents.specs.Contents.{mostCards, cardsOf, readOfADeck}
 use Rattle.contents.proofs.Sizes.{few-cards, read-is-enough}
-use Rattle.verdict.specs.Said.{Said, solved, refused, rejected, numberIn}
+use Rattle.ruling.specs.Said.{Said, solved, refused, rejected, numberIn}
 use Rattle.verdict.specs.Verdict.{verdictOn}
 use Rattle.verdict.proofs.Rejected.{rejected-numbered}
 use Rattle.verdict.proofs.Accepted.{never-solved}
@@ -95,7 +95,7 @@ totals-line : (n : Totals) → length (totalsLine n) ≡ 27 + length (decimal 10
 totals-line n = simp length-append (omega arith)
 
 -- all lines of at most 256 cards
-accepted-most : (cards : List Card) → length cards ≤ 256 → length (acceptedLines cards) ≤ longestListing
+accepted-most : (cards : List Card) → length cards ≤ mostCards → length (acceptedLines cards) ≤ longestListing
 accepted-most cards few =
     let verdicts = verdictsOf cards in
     let n = countedAll nothing verdicts in

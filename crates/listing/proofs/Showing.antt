@@ -10,8 +10,8 @@ use native.Mathlib.Omega.{arith}
 use lib.ListN.{length, drop, getD, length-drop, drop-of-length-le}
 use lib.Seq.{drop-cons}
 use Rattle.pieces.specs.Pieces.{Put}
-use Rattle.pieces.proofs.Puts as pieces
-use Rattle.pieces.proofs.Puts.{puts, none, renamed}
+use Rattle.pieces.proofs.Puts.{renamed}
+use Rattle.pieces.proofs.InPieces.{InPieces, nothing-yet, one-on, all-there}
 use Rattle.rows.specs.Rows.{pass, refuse}
 use Rattle.rows.proofs.Laws.{pass-once}
 use Rattle.card.specs.declared.Kind.{Kind}
@@ -32,9 +32,7 @@ pub record Showing (deck list : List ℕ) (count : ℕ) (before page : List ℕ)
   pub kinds : KindsFrom deck i rest
   pub behind : List ℕ
   pub numbers : drop i list ≡ numbersOf rest ++ behind
-  pub inside : end ≤ length page
-  pub as-long : length page ≡ length before
-  pub to-come : (after : List ℕ) (stop : ℕ) → Put page end (cardLines (i + 1) rest) after stop → Put before 0 (cardLines 1 all) after stop
+  pub pieces : InPieces before 0 (cardLines 1 all) page end (cardLines (i + 1) rest)
 
 pub start : (deck list : List ℕ) (count : ℕ) (page : List ℕ) → Judged deck list count → Showing deck list count page page 0 0
 start deck list count page j =
@@ -46,9 +44,7 @@ start deck list count page j =
       kinds = all-kinds-named deck (j .cards) (j .cards-are);
       behind = j .behind;
       numbers = j .numbers;
-      inside = omega arith;
-      as-long = refl;
-      to-come = λ after stop p. p;
+      pieces = nothing-yet (cardLines 1 (j .cards)) (omega arith);
     }
 
 -- a list of cards that is not empty
@@ -106,9 +102,7 @@ module _ {deck list : List ℕ} {count : ℕ} {before page : List ℕ} {i end : 
         kinds = subst (KindsFrom deck i) (next h .2) (s .kinds) .1;
         behind = s .behind;
         numbers = ap (λ (k : ℕ). drop k list) (add-one i) ∙ tail-is (both-numbers h);
-        inside = pieces.inside p;
-        as-long = pieces.as-long p ∙ s .as-long;
-        to-come = λ last end′ q. s .to-come last end′ (renamed (lines-are h kind e) (puts p q));
+        pieces = one-on (s .pieces) (lines-are h kind e) p;
       }
 
   -- after the last card
@@ -116,7 +110,7 @@ module _ {deck list : List ℕ} {count : ℕ} {before page : List ℕ} {i end : 
   unfolding cardLines
   finished h =
       let ended : s .rest ≡ [] = drop-of-length-le (s .rest) {i = 0} (omega (arith, s .left)) in
-      s .to-come page end (renamed (sym (ap (cardLines (i + 1)) ended)) (none (s .inside)))
+      all-there (s .pieces) (ap (cardLines (i + 1)) ended)
 
   pub shown : count ≤ i → (cards : List Card) → cardsOf deck ≡ pass cards → Put before 0 (cardLines 1 cards) page end
   shown h cards e = renamed (ap (cardLines 1) (pass-once (sym (s .cards-are) ∙ e))) (finished h)

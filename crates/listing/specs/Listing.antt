@@ -5,7 +5,7 @@ use Rattle.pieces.specs.Pieces.{joined}
 use Rattle.rows.specs.Rows.{Checked, pass, refuse}
 use Rattle.card.specs.Fields.{Card}
 use Rattle.contents.specs.Contents.{cardsOf}
-use Rattle.verdict.specs.Said.{numberIn}
+use Rattle.ruling.specs.Said.{numberIn}
 use Rattle.verdict.specs.Verdict.{verdictOn}
 use Rattle.deck.specs.Tally.{tallyOf}
 use Rattle.deck.specs.Check.{verdictsOf}

@@ -15,10 +15,8 @@ ghost use Rattle.contents.specs.Contents.{cardsOf};
 ghost use Rattle.listing.specs.Listing as listing;
 ghost use Rattle.listing.specs.Judged.{Judged};
 
-// The bytes of the longest listing, and the most cards.
+// The bytes of the longest listing.
 pub const ROOM: usize = 5087;
-
-const CARDS: usize = 256;
 
 // The deck's listing, in out, if out has room for it. Answers how long it is.
 pub fn listing(deck: &[u8], out: &mut [u8]) -> usize
@@ -41,7 +39,7 @@ fn blank() -> [u8; ROOM]
 fn write(deck: &[u8], page: &mut [u8]) -> usize
     ensures { λ r. ⌜ Put (now (page .entry)) 0 (listing.listingOf (now (deck .entry))) (now (page .exit)) r ⌝ }
 {
-    let mut verdicts = [0u32; CARDS];
+    let mut verdicts = [0u32; contents::MOST_CARDS];
     match deck::check(deck, &mut verdicts) {
         Answer::Refused(why) => reply::refused(why.number(), page),
         Answer::Accepted(totals, residuals) => {

@@ -10,9 +10,9 @@ use Rattle.maker.specs.declared.Asked.{Asked}
 use Rattle.maker.specs.declared.Asked.the-variants as asked
 
 -- the cards that the bytes come to
-abbrev pub cardsFrom : Asked → (given : List ℕ) → Checked (List Card)
-cardsFrom asked.Problems given = problemCards given
-cardsFrom asked.Copy given = copyOf given
+abbrev pub cardsMade : Asked → (given : List ℕ) → Checked (List Card)
+cardsMade asked.Problems given = problemCards given
+cardsMade asked.Copy given = copyOf given
 
 -- how many bytes are read
 abbrev pub readOf : Asked → ℕ

@@ -10,7 +10,7 @@ ghost use lib.ListN.{length};
 ghost use Rattle.io.specs.Counts.{Counts};
 ghost use Rattle.layout.specs.Written.{lengthFor, bufferAfter, said};
 ghost use Rattle.reply.specs.Reply.{replyOf};
-ghost use Rattle.maker.specs.Made.{cardsFrom, readOf};
+ghost use Rattle.maker.specs.Made.{cardsMade, readOf};
 
 // What a deck is made of.
 pub enum Asked {
@@ -22,7 +22,7 @@ pub enum Asked {
 pub fn make(asked: Asked) {
     let mut space = io::large_buffer();
     let got = read(asked, &mut space, enough(asked));
-    let mut page = [0u8; layout::DECK];
+    let mut page = [0u8; contents::LARGEST_DECK];
     let answer = made(asked, &space[..got], &mut page);
     let end = reply::reply(answer, &mut page);
     write(asked, &space[..got], &page[..end]);
@@ -34,8 +34,8 @@ fn enough(asked: Asked) -> usize
     ensures { λ r. ⌜ r ≡ readOf asked ⌝ }
 {
     match asked {
-        Asked::Problems => 17476,
-        Asked::Copy => 35849,
+        Asked::Problems => card::PROBLEM * (contents::MOST_CARDS + 1),
+        Asked::Copy => contents::LARGEST_DECK + 1,
     }
 }
 
@@ -49,8 +49,8 @@ fn read(asked: Asked, space: &mut [u8], most: usize) -> usize
 
 // Makes the deck at the front of the page.
 fn made(asked: Asked, given: &[u8], page: &mut [u8]) -> Written
-    ensures { λ r. ⌜ said r ≡ lengthFor (cardsFrom asked (now (given .entry))) (length (now (page .entry))) ⌝ }
-    ensures { λ r. ⌜ now (page .exit) ≡ bufferAfter (cardsFrom asked (now (given .entry))) (now (page .entry)) ⌝ }
+    ensures { λ r. ⌜ said r ≡ lengthFor (cardsMade asked (now (given .entry))) (length (now (page .entry))) ⌝ }
+    ensures { λ r. ⌜ now (page .exit) ≡ bufferAfter (cardsMade asked (now (given .entry))) (now (page .entry)) ⌝ }
 {
     match asked {
         Asked::Problems => problems::write(given, page),
@@ -60,7 +60,7 @@ fn made(asked: Asked, given: &[u8], page: &mut [u8]) -> Written
 
 // Writes what is the reply to these bytes.
 fn write(asked: Asked, given: &[u8], reply: &[u8])
-    requires { ⌜ now reply ≡ replyOf (cardsFrom asked (now given)) ⌝ }
+    requires { ⌜ now reply ≡ replyOf (cardsMade asked (now given)) ⌝ }
 {
     stdio::write(reply);
 }

@@ -39,8 +39,8 @@ abbrev pub givenIn : Card → List ℕ
 givenIn c = wordsBytes (c .given) ++ bytesOf 4 (c .problem .limit)
 
 -- and the fields that it has on a card, without spares
-abbrev pub fieldsOf : Card → List ℕ
-fieldsOf c = givenIn c ++ answerFor (conic.said (c .outcome))
+abbrev pub fieldsHeld : Card → List ℕ
+fieldsHeld c = givenIn c ++ answerFor (conic.said (c .outcome))
 
 -- Writing a deck 7: what is read of problems: one more than a deck may have
 abbrev pub readOfProblems : ℕ

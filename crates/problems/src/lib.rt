@@ -22,10 +22,7 @@ ghost use Rattle.contents.specs.Contents.{entryAt, mostCards, largestDeck};
 ghost use Rattle.layout.specs.Layout.{bodiesOf, deckOf};
 ghost use Rattle.layout.specs.Packed.{kindsOf};
 ghost use Rattle.layout.specs.Written.{lengthFor, bufferAfter, said};
-ghost use Rattle.problems.specs.Problems.{wordsIn, cardsFor, problemCards, givenIn, fieldsOf};
-
-// The most bytes of a card's fields: a solved card's.
-const FIELDS: usize = 124;
+ghost use Rattle.problems.specs.Problems.{wordsIn, cardsFor, problemCards, givenIn, fieldsHeld};
 
 // A card: the problem and its answer, and beside the problem's numbers the words that were given for
 // them, since a NaN among them may have any payload.
@@ -41,7 +38,7 @@ pub fn write(problems: &[u8], buffer: &mut [u8]) -> Written
     ensures { λ r. ⌜ now (buffer .exit) ≡ bufferAfter (problemCards (now (problems .entry))) (now (buffer .entry)) ⌝ }
 {
     let count = problems.len() / card::PROBLEM;
-    if layout::CARDS < count {
+    if contents::MOST_CARDS < count {
         return Written::Refused(Reason::TooManyGiven);
     }
     if problems.len() % card::PROBLEM != 0 {
@@ -69,10 +66,10 @@ fn in_little_room(problems: &[u8], buffer: &mut [u8]) -> Written
 }
 
 // A page with room for any deck.
-fn blank() -> [u8; layout::DECK]
+fn blank() -> [u8; contents::LARGEST_DECK]
     ensures { λ r. ⌜ largestDeck ≡ length r ⌝ }
 {
-    [0; layout::DECK]
+    [0; contents::LARGEST_DECK]
 }
 
 // The deck of these problems' cards, on a page with room for its contents. These are written last, since
@@ -82,7 +79,7 @@ fn fill(problems: &[u8], page: &mut [u8]) -> usize
     ensures { λ r. ⌜ Put (now (page .entry)) 0 (deckOf (cardsFor (length (now (problems .entry)) / problemSize) (now (problems .entry)))) (now (page .exit)) r ⌝ }
 {
     let count = problems.len() / card::PROBLEM;
-    let mut kinds = [0u32; layout::CARDS];
+    let mut kinds = [0u32; contents::MOST_CARDS];
     let end = answer(
         problems,
         &mut kinds,
@@ -120,7 +117,7 @@ fn put_body(made: Card, kind: Kind, page: &mut [u8], at: usize) -> usize
     requires { ⌜ length (givenIn made) ≡ problemSize ⌝ }
     ensures { λ r. ⌜ Put (now (page .entry)) at (bodyOf kind (givenIn made) (answerFor (conic.said (made .outcome)))) (now (page .exit)) r ⌝ }
 {
-    let mut fields = [0u8; FIELDS];
+    let mut fields = [0u8; card::FIELDS];
     let end = put_card(made, &mut fields, 0);
     layout::put_body(kind, &fields[..end], page, at)
 }
@@ -172,7 +169,7 @@ fn kind_of(outcome: Outcome) -> Kind
 // A card's fields, without spares.
 fn put_card(made: Card, fields: &mut [u8], at: usize) -> usize
     requires { ⌜ at ≤ length (now fields) ⌝ }
-    ensures { λ r. ⌜ Put (now (fields .entry)) at (fieldsOf made) (now (fields .exit)) r ⌝ }
+    ensures { λ r. ⌜ Put (now (fields .entry)) at (fieldsHeld made) (now (fields .exit)) r ⌝ }
 {
     let given = made.given;
     let outcome = made.outcome;

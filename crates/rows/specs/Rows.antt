@@ -12,6 +12,11 @@ unfoldable pub must : {A : Type 0} → Bool → ℕ → Checked A → Checked A
 must true k rest = rest
 must false k rest = refuse k
 
+-- the number of a refusal; 0 where there is none
+abbrev pub refusalIn : {A : Type 0} → Checked A → ℕ
+refusalIn (pass x) = 0
+refusalIn (refuse k) = k
+
 -- on with what an earlier row of tests came to
 unfoldable pub onward : {A B : Type 0} → Checked A → (A → Checked B) → Checked B
 onward (pass x) rest = rest x

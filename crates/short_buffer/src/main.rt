@@ -1,61 +1,84 @@
-// Tries the refusals of writing and taking apart that `write_deck` and `copy_deck` can't reach, and
-// what becomes of a lent buffer. The problem on standard input makes a deck of one card, 148 bytes. It
-// is written into buffers of 7 to 150 bytes; taken apart into short lists and lists that fit; and its
-// fields are written anew as a card of kind 0, 1 and 2. A line is written for each: the refusal's
-// number (0: none), and how many bytes of the buffer still have the value 97 that all had.
+// Tries the refusals of writing, taking apart and copying that `write_deck` and `copy_deck` can't reach,
+// and what becomes of what is lent. The problem on standard input makes a deck of one card, 148 bytes.
+// It is written into parts of a buffer, of 7 to 150 bytes; taken apart into short lists and lists that
+// fit; its fields are written anew as a card of kind 0, 1 and 2, as one into a short buffer, and as
+// 257; and the deck is copied. A line is written for each list or buffer of which a part is lent: the
+// refusal's number (0: none), and how many of its places still have the value 97 that all had.
 use apart::Apart;
 use layout::Written;
+ghost use Prim.Native.Nat.{_≤_};
+
+// The bytes of which a part is lent.
+const SIZE: usize = 150;
 
 fn main() {
-    let mut space = [0u8; 68];
-    let got = stdio::read(&mut space, 68);
-    write_all(&space[..got]);
-    take_all(&space[..got]);
-    finish(&space[..got], 0);
-    finish(&space[..got], 1);
-    finish(&space[..got], 2);
-}
-
-fn write_all(problem: &[u8]) {
-    write_in(problem, &mut [97u8; 7]);
-    write_in(problem, &mut [97u8; 147]);
-    write_in(problem, &mut [97u8; 148]);
-    write_in(problem, &mut [97u8; 150]);
-}
-
-fn take_all(problem: &[u8]) {
-    let mut kinds = [0u32; 1];
-    take_in(problem, &mut kinds[..0], &mut [97u8; 124]);
-    take_in(problem, &mut [0u32; 1], &mut [97u8; 123]);
-    take_in(problem, &mut [0u32; 1], &mut [97u8; 128]);
+    let mut space = [0u8; card::PROBLEM];
+    let got = stdio::read(&mut space, card::PROBLEM);
+    write_in(&space[..got], 7);
+    write_in(&space[..got], 147);
+    write_in(&space[..got], 148);
+    write_in(&space[..got], 150);
+    let mut deck = [0u8; 148];
+    problems::write(&space[..got], &mut deck);
+    take_in(&deck, 0, 124);
+    take_in(&deck, 1, 123);
+    take_in(&deck, 1, 124);
+    finish_all(&deck);
+    copy_in(&deck, 147);
+    copy_in(&deck, 148);
 }
 
 // Writes the problem's deck.
-fn write_in(problem: &[u8], buffer: &mut [u8]) {
-    let answer = problems::write(problem, buffer);
-    tell(b"write", refusal(answer), kept(buffer));
+fn write_in(problem: &[u8], room: usize)
+    requires { ⌜ room ≤ 150 ⌝ }
+{
+    let mut buffer = [97u8; SIZE];
+    let answer = problems::write(problem, &mut buffer[..room]);
+    tell(b"write", refusal(answer), kept(&buffer));
 }
 
-// Takes the problem's deck apart.
-fn take_in(problem: &[u8], kinds: &mut [u32], fields: &mut [u8]) {
-    let mut deck = [0u8; 148];
-    problems::write(problem, &mut deck);
-    let number = match apart::take(&deck, kinds, fields) {
+// Takes the deck apart, with so many places for kinds, and room for fields.
+fn take_in(deck: &[u8], places: usize, room: usize)
+    requires { ⌜ (places ≤ 2) × (room ≤ 150) ⌝ }
+{
+    let mut kinds = [97u32; 2];
+    let mut fields = [97u8; SIZE];
+    let number = match apart::take(deck, &mut kinds[..places], &mut fields[..room]) {
         Apart::Cards(_, _) => 0,
         Apart::Refused(why) => why.number(),
     };
-    tell(b"take", number, kept(fields));
+    let left = std::num::wrapping_add_u32(same(kinds[0]), same(kinds[1]));
+    tell(b"take kinds", number, left);
+    tell(b"take fields", number, kept(&fields));
 }
 
-// Writes the fields of the problem's card as a card of this kind.
-fn finish(problem: &[u8], kind: u32) {
-    let mut deck = [0u8; 148];
-    problems::write(problem, &mut deck);
-    let mut fields = [97u8; 124];
-    apart::take(&deck, &mut [0u32; 1], &mut fields);
-    let mut buffer = [97u8; 150];
-    let answer = writer::write(&[kind; 1], &fields, &mut buffer);
+// Writes the fields of the deck's card as one of another kind, into too little room, and as too many.
+fn finish_all(deck: &[u8]) {
+    let mut fields = [0u8; 124];
+    apart::take(deck, &mut [0u32; 1], &mut fields);
+    finish_in(&[0u32; 1], &fields, 150);
+    finish_in(&[1u32; 1], &fields, 150);
+    finish_in(&[2u32; 1], &fields, 150);
+    finish_in(&[1u32; 1], &fields, 147);
+    finish_in(&[1u32; 257], &fields, 150);
+}
+
+// Writes finished cards.
+fn finish_in(kinds: &[u32], fields: &[u8], room: usize)
+    requires { ⌜ room ≤ 150 ⌝ }
+{
+    let mut buffer = [97u8; SIZE];
+    let answer = writer::write(kinds, fields, &mut buffer[..room]);
     tell(b"finish", refusal(answer), kept(&buffer));
+}
+
+// Copies the deck.
+fn copy_in(deck: &[u8], room: usize)
+    requires { ⌜ room ≤ 150 ⌝ }
+{
+    let mut buffer = [97u8; SIZE];
+    let answer = copier::copy(deck, &mut buffer[..room]);
+    tell(b"copy", refusal(answer), kept(&buffer));
 }
 
 fn refusal(answer: Written) -> u32 {
@@ -66,16 +89,22 @@ fn refusal(answer: Written) -> u32 {
 }
 
 // How many bytes still have the value 97.
-fn kept(buffer: &[u8]) -> u32 {
+fn kept(buffer: &[u8; SIZE]) -> u32 {
     let mut sum = 0u32;
     let mut i = 0;
-    while i < buffer.len() {
-        if buffer[i] == 97 {
-            sum = std::num::wrapping_add_u32(sum, 1);
-        }
+    while i < SIZE {
+        sum = std::num::wrapping_add_u32(sum, same(wide(buffer[i])));
         i += 1;
     }
     sum
+}
+
+fn wide(byte: u8) -> u32 {
+    byte as u32
+}
+
+fn same(value: u32) -> u32 {
+    if value == 97 { 1 } else { 0 }
 }
 
 // A line: the word, the refusal, what was kept.

@@ -6,7 +6,7 @@ ghost use Prim.Native.Nat.{_≤_};
 
 fn main() {
     let mut space = io::large_buffer();
-    let got = stdio::read(&mut space, 35849);
+    let got = stdio::read(&mut space, contents::LARGEST_DECK + 1);
     check_in(&space[..got], 0);
     check_in(&space[..got], 1);
     check_in(&space[..got], 2);

@@ -25,7 +25,7 @@ use Rattle.kepler.specs.Kepler.{keplerOf}
 use Rattle.card.specs.declared.Kind.{Kind}
 use Rattle.card.specs.declared.Kind.the-variants as kind
 use Rattle.card.specs.Fields.{problemOf, spareOf, xOf, refusalOf, lastSpareOf}
-use Rattle.verdict.specs.Said.{solved, numberIn}
+use Rattle.ruling.specs.Said.{solved, numberIn}
 use Rattle.verdict.specs.Verdict.{solvedCard, isRefusedWith, refusedCard, asSolved, asRefused, verdictOn}
 use Rattle.verdict.proofs.StateWords.{stateWords, wordsOf}
 use Rattle.verdict.proofs.Tests.{solved-is, solved-passes, refused-tests}

@@ -3,5 +3,4 @@ pub mod Tests
 pub mod Rejected
 pub mod Accepted
 pub mod Made
-pub mod Theorems
 pub mod Fixed

@@ -26,7 +26,7 @@ use Rattle.card.specs.declared.Kind.the-variants as kind
 use Rattle.card.specs.Fields.{problemOf, spareOf, xOf, refusalOf, lastSpareOf}
 use Rattle.card.specs.Made.{numbersBytes, problemBytes, spare, solvedNumbers, solvedBody, refusedBody, cardFor}
 use Rattle.card.proofs.Numbers.{AllFit, length-numbers, word-at, number-at}
-use Rattle.verdict.specs.Said.{numberIn}
+use Rattle.ruling.specs.Said.{numberIn}
 use Rattle.verdict.specs.Verdict.{isRefusedWith, asRefused, verdictOn}
 use Rattle.verdict.proofs.StateWords.{stateWords, wordsOf}
 use Rattle.verdict.proofs.Tests.{solved-passes, refused-tests}

@@ -14,7 +14,7 @@ use Rattle.entry.proofs.Refusals.{entry-refuses}
 use Rattle.card.specs.declared.Kind.{Kind}
 use Rattle.card.specs.declared.Kind.the-variants as kind
 use Rattle.card.specs.Fields.{problemOf}
-use Rattle.verdict.specs.Said.{rejected, numberIn}
+use Rattle.ruling.specs.Said.{rejected, numberIn}
 use Rattle.verdict.specs.Verdict.{unfoldsTo, atX, solvedCard, refusedCard, asSolved, asRefused, verdictOn}
 
 unfolds-refuses : (body : List ℕ) (o : Scaled) (x residual : Float) → Refuses Numbered (unfoldsTo body o x residual)

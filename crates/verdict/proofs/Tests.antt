@@ -27,7 +27,7 @@ use Rattle.entry.proofs.Fair.{in-start-finite}
 use Rattle.kepler.specs.Kepler.{keplerOf}
 use Rattle.card.specs.declared.Kind.the-variants as kind
 use Rattle.card.specs.Fields.{problemOf, spareOf, xOf, refusalOf, lastSpareOf}
-use Rattle.verdict.specs.Said.{solved}
+use Rattle.ruling.specs.Said.{solved}
 use Rattle.verdict.specs.Verdict.{sameState, unfoldsTo, atX, solvedCard, isRefusedWith, refusedCard, verdictOn}
 use Rattle.verdict.proofs.StateWords.{stateWords, wordsOf, same-state}
 

@@ -20,7 +20,7 @@ use Rattle.kepler.specs.Kepler.{keplerOf}
 use Rattle.card.specs.declared.Kind.{Kind}
 use Rattle.card.specs.declared.Kind.the-variants as kind
 use Rattle.card.specs.Fields.{problemOf, spareOf, xOf, positionAt, velocityAt, refusalOf, lastSpareOf}
-use Rattle.verdict.specs.Said.{Said, solved, refused, rejected}
+use Rattle.ruling.specs.Said.{Said, solved, refused, rejected}
 
 -- the bits of a state, as words, against those of the body
 abbrev pub sameWords : List ℕ → (at : ℕ) → Vector → Bool

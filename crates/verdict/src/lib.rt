@@ -15,58 +15,17 @@ use conic::Reason;
 use conic::Scaled;
 use conic::unfolding::Arrival;
 use entry::Start;
+use ruling::Fault;
+use ruling::Verdict;
 use search::Bracket;
 use vectors::Vector;
 ghost use mathlib.Core.Path.{_≡_};
 ghost use Prim.Native.Nat.{_≤_};
 ghost use Rattle.conic.specs.Said as conic;
+ghost use Rattle.rows.specs.Rows.{refusalIn};
 ghost use Rattle.entry.specs.Said.{passedStart};
-ghost use Rattle.verdict.specs.Said.{faultNumber, said, numberIn, refusalIn};
+ghost use Rattle.ruling.specs.Said.{said};
 ghost use Rattle.verdict.specs.Verdict.{sameWords, isRefusedWith, unfoldsTo, atX, solvedCard, refusedCard, asSolved, asRefused, verdictOn};
-
-// Why a card is rejected, besides the reasons for which a prediction is refused.
-pub enum Fault {
-    XOutside,
-    TimeOff,
-    StateDiffers,
-    SpareNotZero,
-    NumberDiffers,
-}
-
-// A solved card's verdict 0 comes with its residual |T - t|; a refused card has none.
-pub enum Verdict {
-    Solved(f64),
-    Refused,
-    Rejected(u32),
-}
-
-impl Fault {
-    // Its number in the rules.
-    pub fn number(self) -> u32
-        ensures { λ r. ⌜ r ≡ faultNumber self ⌝ }
-    {
-        match self {
-            Fault::XOutside => 20,
-            Fault::TimeOff => 21,
-            Fault::StateDiffers => 22,
-            Fault::SpareNotZero => 23,
-            Fault::NumberDiffers => 24,
-        }
-    }
-}
-
-impl Verdict {
-    // The number for the verdict list: 0 for a card that is accepted.
-    pub fn number(self) -> u32
-        ensures { λ r. ⌜ r ≡ numberIn (said self) ⌝ }
-    {
-        match self {
-            Verdict::Solved(_) => 0,
-            Verdict::Refused => 0,
-            Verdict::Rejected(number) => number,
-        }
-    }
-}
 
 // The verdict on a card.
 pub fn judge(kind: Kind, body: &[u8]) -> Verdict

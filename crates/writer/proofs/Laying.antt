@@ -1,5 +1,5 @@
 -- The loop that writes the bodies, turn by turn: the bodies of the cards that are left, written behind what stands, are the bodies of all cards.
-use mathlib.Core.Path.{_≡_, refl, sym, ap, _∙_}
+use mathlib.Core.Path.{_≡_, sym, ap, _∙_}
 use mathlib.Core.Bool.{true≢false}
 use mathlib.Core.List.{List, [], _∷_, _++_}
 use Prim.Native.Nat.{ℕ, _+_, _≤_, _<_}
@@ -8,8 +8,8 @@ use native.Mathlib.Omega.{arith}
 use lib.ListN.{length, take, drop, getD, length-drop, drop-of-length-le}
 use lib.Seq.{drop-cons, drop-drop}
 use Rattle.pieces.specs.Pieces.{Put}
-use Rattle.pieces.proofs.Puts as pieces
-use Rattle.pieces.proofs.Puts.{puts, none, renamed}
+use Rattle.pieces.proofs.Puts.{renamed}
+use Rattle.pieces.proofs.InPieces.{InPieces, nothing-yet, one-on, all-there}
 use Rattle.rows.specs.Rows.{pass, refuse}
 use Rattle.rows.proofs.Laws.{pass-once}
 use Rattle.card.specs.declared.Kind.{Kind}
@@ -26,14 +26,12 @@ pub record Laying (kinds fields before : List ℕ) (start : ℕ) (buffer : List 
   cards-are : packedCards kinds fields ≡ pass all
   rest : List Card
   left : packedCards (drop i kinds) (drop at fields) ≡ pass rest
-  pub inside : end ≤ length buffer
-  pub as-long : length buffer ≡ length before
-  to-come : (after : List ℕ) (stop : ℕ) → Put buffer end (bodiesOf rest) after stop → Put before start (bodiesOf all) after stop
+  pub pieces : InPieces before start (bodiesOf all) buffer end (bodiesOf rest)
 
 pub begin : (kinds fields buffer : List ℕ) (start : ℕ) → Passes (packedCards kinds fields) → start ≤ length buffer → Laying kinds fields buffer start buffer 0 start 0
 begin kinds fields buffer start p h =
     let cards = come-to-cards (packedCards kinds fields) p in
-    record { all = cards .0; cards-are = cards .1; rest = cards .0; left = cards .1; inside = h; as-long = refl; to-come = λ after stop q. q }
+    record { all = cards .0; cards-are = cards .1; rest = cards .0; left = cards .1; pieces = nothing-yet (bodiesOf (cards .0)) h }
 
 module _ {kinds fields before : List ℕ} {start : ℕ} {buffer : List ℕ} {at end i : ℕ} (s : Laying kinds fields before start buffer at end i) where
   -- while a kind is left, so is a card
@@ -70,9 +68,7 @@ module _ {kinds fields before : List ℕ} {start : ℕ} {buffer : List ℕ} {at 
         cards-are = s .cards-are;
         rest = n .rest;
         left = ap (packedCards (drop (i + 1) kinds)) (sym (drop-drop (packedSize kind) at fields)) ∙ others;
-        inside = pieces.inside p;
-        as-long = pieces.as-long p ∙ s .as-long;
-        to-come = λ last stop′ q. s .to-come last stop′ (renamed (bodies-are kind h r) (puts p q));
+        pieces = one-on (s .pieces) (bodies-are kind h r) p;
       }
 
   -- after the last one
@@ -81,4 +77,4 @@ module _ {kinds fields before : List ℕ} {start : ℕ} {buffer : List ℕ} {at 
   laid h cards e =
       let ended : s .rest ≡ [] = drop-of-length-le (s .rest) {i = 0} (omega (arith, as-many (drop i kinds) (drop at fields) (s .rest) (s .left) ∙ ap length (drop-of-length-le kinds h))) in
       let same : s .all ≡ cards = pass-once (sym (s .cards-are) ∙ e) in
-      renamed (ap bodiesOf same) (s .to-come buffer end (renamed (sym (ap bodiesOf ended)) (none (s .inside))))
+      renamed (ap bodiesOf same) (all-there (s .pieces) (ap bodiesOf ended))

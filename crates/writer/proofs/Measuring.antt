@@ -8,7 +8,7 @@ use lib.ListN.{length, take, drop, getD, length-append, length-drop, drop-of-len
 use lib.Seq.{length-take-le, drop-cons, drop-drop}
 use Rattle.rows.specs.Rows.{Checked, pass, refuse, onward}
 use Rattle.card.specs.declared.Kind.{Kind}
-use Rattle.card.specs.Fields.{Card, kindOf, sizeOf, packedSize}
+use Rattle.card.specs.Fields.{Card, kindOf, sizeOf, largestBody, packedSize}
 use Rattle.card.specs.Made.{bodyFrom}
 use Rattle.card.proofs.Sizes.{size-most}
 use Rattle.card.proofs.Packed.{length-body}
@@ -27,7 +27,7 @@ lengthOf kinds fields = onward (packedCards kinds fields) (λ cards. pass (lengt
 
 pub record Measuring (kinds fields : List ℕ) (i at end : ℕ) : Type 0 where
   pub within : at ≤ length fields
-  pub most : end ≤ entryAt (length kinds) + 128 * i
+  pub most : end ≤ entryAt (length kinds) + largestBody * i
   pub same : onward (packedCards (drop i kinds) (drop at fields)) (longer end) ≡ lengthOf kinds fields
 
 -- the first length is that of header and entries

@@ -23,7 +23,7 @@ pub fn write(kinds: &[u32], fields: &[u8], buffer: &mut [u8]) -> Written
     ensures { λ r. ⌜ said r ≡ lengthFor (finishedCards (now (kinds .entry)) (now (fields .entry))) (length (now (buffer .entry))) ⌝ }
     ensures { λ r. ⌜ now (buffer .exit) ≡ bufferAfter (finishedCards (now (kinds .entry)) (now (fields .entry))) (now (buffer .entry)) ⌝ }
 {
-    if kinds.len() > contents::MOST_CARDS as usize {
+    if kinds.len() > contents::MOST_CARDS {
         return Written::Refused(Reason::TooManyGiven);
     }
     let made = measured(kinds, fields);

@@ -5,6 +5,7 @@ use Prim.Native.Nat.{_*_}
 use native.Mathlib.Omega.{arith}
 use borrow.Author.Needs.{needs}
 use lib.ListN.{length, replicate}
+use Rattle.card.specs.Fields.{largestFields}
 use Rattle.contents.specs.Contents.{mostCards}
 use Rattle.layout.specs.Written.{lengthFor, bufferAfter}
 use Rattle.layout.proofs.Writing.{refused-writes}
@@ -18,7 +19,7 @@ returns c = refused-writes (c .before .before .before .before .before .before .b
 
 -- what was taken
 fronts : (c : tie.After-known-told2) → Listed (c .before .before .before .before .before .before .before .before .before .before .args .deck .now) (c .before .before .before .before .before .take .last .1 .0) (c .before .before .before .before .before .take .last .1 .1 .0) (c .before .count .given .0 .0) (c .before .count .given .0 .1 .0)
-fronts c = listed (c .before .before .before .before .before .before .before .before .before .before .args .deck .now) (replicate mostCards 0) (replicate (124 * mostCards) 0) (sym (ap said (c .before .count .given .1)) ∙ c .before .before .before .before .before .take .ensures .0) (c .before .before .before .before .before .take .ensures .1 .0) (c .before .before .before .before .before .take .ensures .1 .1)
+fronts c = listed (c .before .before .before .before .before .before .before .before .before .before .args .deck .now) (replicate mostCards 0) (replicate (largestFields * mostCards) 0) (sym (ap said (c .before .count .given .1)) ∙ c .before .before .before .before .before .take .ensures .0) (c .before .before .before .before .before .take .ensures .1 .0) (c .before .before .before .before .before .take .ensures .1 .1)
 
 returns-2 : tie.Need-returns-2
 returns-2 c =

@@ -9,7 +9,7 @@ use Rattle.rows.specs.Rows.{pass}
 use Rattle.contents.specs.Said.{reasonNumber, entered}
 use Rattle.contents.specs.Contents.{entryAt, entryIn}
 use Rattle.contents.proofs.Cards.{entry-inside}
-use Rattle.verdict.specs.Said.{said}
+use Rattle.ruling.specs.Said.{said}
 use Rattle.deck.specs.declared.tally.Running.{Running}
 use Rattle.deck.proofs.Going.{Going, some-left, start, never-refused, turn, answer-is, list-is}
 use Rattle.deck.proofs.judged.Statement.{statement}

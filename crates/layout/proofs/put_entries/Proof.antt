@@ -22,7 +22,7 @@ loop-holds : tie.Need-loop-holds Inv-loop μ-loop
 loop-holds c = begin (c .before .before .args .kinds .now) (c .before .before .args .out .now) (c .before .before .args .start) (c .before .before .pre .1)
 
 same-length : tie.Need-same-length Inv-loop μ-loop
-same-length c = c .before .before .before .before .before .loop .inv .as-long
+same-length c = c .before .before .before .before .before .loop .inv .pieces .as-long
 
 returns : tie.Need-returns Inv-loop μ-loop
 returns c = no-kind (c .before .before .before .before .before .loop .inv) 34 (omega arith) (sym (c .before .before .kind-of .ensures) ∙ ap named (c .enum-told .given .1))
@@ -65,5 +65,5 @@ put-entries-spec =
     (λ c. omega arith)
     (λ c. omega arith)
     loop-again
-    (λ c. c .before .loop .inv .as-long)
+    (λ c. c .before .loop .inv .pieces .as-long)
     returns-2)

@@ -20,7 +20,7 @@ loop-holds : tie.Need-loop-holds Inv-loop μ-loop
 loop-holds c = start (c .before .before .before .args .deck .now) (c .before .before .before .args .verdicts .now) (c .before .before .before .args .count) (c .before .before .before .args .page .now) (c .before .before .before .pre)
 
 same-length : tie.Need-same-length Inv-loop μ-loop
-same-length c = c .before .before .before .before .loop .inv .as-long
+same-length c = c .before .before .before .before .loop .inv .pieces .as-long
 
 returns : tie.Need-returns Inv-loop μ-loop
 returns c = absurd (never-unknown (c .before .before .before .before .loop .inv) 34 (c .before .before .before .loop-test .taken) (sym (c .before .before .kind-at .ensures) ∙ ap named (c .enum-told .given .1)))
@@ -38,7 +38,7 @@ loop-again c =
     turn (k .before .before .before .before .loop .inv) (k .kind .given .0 .0) (k .before .before .before .loop-test .taken) (sym (k .before .before .kind-at .ensures) ∙ ap named (k .kind .given .1)) (wrote (w .card-line .ensures))
 
 same-length-2 : tie.Need-same-length-2 Inv-loop μ-loop
-same-length-2 c = c .before .loop .inv .as-long
+same-length-2 c = c .before .loop .inv .pieces .as-long
 
 returns-2 : tie.Need-returns-2 Inv-loop μ-loop
 returns-2 c = shown (c .before .loop .inv) (c .loop-test .left)

@@ -9,7 +9,7 @@ use lib.ListN.{replicate}
 use Rattle.pieces.specs.Pieces.{joined}
 use Rattle.pieces.proofs.Puts.{puts, last, renamed, wrote}
 use Rattle.rows.specs.Rows.{refuse}
-use Rattle.contents.specs.Contents.{cardsOf}
+use Rattle.contents.specs.Contents.{mostCards, cardsOf}
 use Rattle.contents.specs.Said.{reasonNumber}
 use Rattle.deck.specs.declared.Totals.{Totals}
 use Rattle.deck.specs.Tally.{Residuals}
@@ -37,7 +37,7 @@ judged : {deck list after : List ℕ} {totals : Totals} {r : Residuals} → Answ
 judged a e = record { cards = a .cards; cards-are = a .cards-are; as-many = sym (a .as-many); behind = _; numbers = e ∙ a .numbers }
 
 -- the deck was accepted
-accepted : (c : tie.After-totals) → Answered (c .before .before .before .before .before .before .before .args .deck .now) (replicate 256 0) (c .totals .given .0 .0) (told (c .totals .given .0 .1 .0))
+accepted : (c : tie.After-totals) → Answered (c .before .before .before .before .before .before .before .args .deck .now) (replicate mostCards 0) (c .totals .given .0 .0) (told (c .totals .given .0 .1 .0))
 accepted c = answered _ _ _ _ (sym (c .before .before .before .check .ensures .0) ∙ ap said (c .totals .given .1))
 
 add-count : tie.Need-add-count
@@ -53,7 +53,7 @@ returns : tie.Need-returns
 returns c =
     let w = c .before .before .before .before .before .before in
     let deck = w .before .before .before .before .before .before .before .args .deck .now in
-    let contents = refused-contents deck 256 (reasonNumber (w .why .given .0 .0)) (omega arith) (sym (w .before .before .before .check .ensures .0) ∙ ap said (w .why .given .1)) in
+    let contents = refused-contents deck mostCards (reasonNumber (w .why .given .0 .0)) (omega arith) (sym (w .before .before .before .check .ensures .0) ∙ ap said (w .why .given .1)) in
     renamed (ap refusedLine (c .before .before .before .before .number .ensures) ∙ only-line deck contents) (wrote (c .before .before .refused .ensures))
 
 returns-2 : tie.Need-returns-2

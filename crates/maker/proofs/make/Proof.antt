@@ -5,16 +5,17 @@ use native.Mathlib.Omega.{arith}
 use borrow.Author.Needs.{needs}
 use lib.ListN.{take, replicate, length-replicate}
 use Rattle.pieces.proofs.Puts.{InFront}
+use Rattle.contents.specs.Contents.{largestDeck, readOfADeck}
 use Rattle.reply.specs.Reply.{replyOf}
 use Rattle.reply.proofs.Replied.{reply-stands}
 use Rattle.maker.specs.declared.Asked.{Asked}
 use Rattle.maker.specs.declared.Asked.the-variants as asked
-use Rattle.maker.specs.Made.{cardsFrom, readOf}
+use Rattle.maker.specs.Made.{cardsMade, readOf}
 use Rattle.maker.proofs.make.Statement.{statement}
 use Rattle.maker.proofs.make.Tie as tie
 
 -- no more is read than of a deck
-read-most : (a : Asked) {n : ℕ} → 35849 ≤ n → readOf a ≤ n
+read-most : (a : Asked) {n : ℕ} → readOfADeck ≤ n → readOf a ≤ n
 read-most asked.Problems h = omega arith
 read-most asked.Copy h = omega arith
 
@@ -22,12 +23,12 @@ read-requires : tie.Need-read-requires
 read-requires c κs = (c .enough .ensures, rw (c .enough .ensures) (read-most (c .before .before .before .args .asked) (search needs)))
 
 -- the part of the page up to where the reply ends
-made : (c : tie.After-reply) → InFront (replyOf (cardsFrom (c .before .before .before .before .before .before .before .before .before .before .before .args .asked) (take (c .before .before .before .before .before .before .before .read .result) (c .before .before .before .before .before .before .before .read .last .1 .0)))) (c .reply .last .1 .0) (c .reply .result)
+made : (c : tie.After-reply) → InFront (replyOf (cardsMade (c .before .before .before .before .before .before .before .before .before .before .before .args .asked) (take (c .before .before .before .before .before .before .before .read .result) (c .before .before .before .before .before .before .before .read .last .1 .0)))) (c .reply .last .1 .0) (c .reply .result)
 made c =
     reply-stands
-    (cardsFrom (c .before .before .before .before .before .before .before .before .before .before .before .args .asked) (take (c .before .before .before .before .before .before .before .read .result) (c .before .before .before .before .before .before .before .read .last .1 .0)))
-    (replicate 35848 0)
-    (sym (length-replicate {A = ℕ} 35848 0))
+    (cardsMade (c .before .before .before .before .before .before .before .before .before .before .before .args .asked) (take (c .before .before .before .before .before .before .before .read .result) (c .before .before .before .before .before .before .before .read .last .1 .0)))
+    (replicate largestDeck 0)
+    (sym (length-replicate {A = ℕ} largestDeck 0))
     (c .before .before .before .made .ensures .0)
     (c .before .before .before .made .ensures .1)
     (c .reply .ensures .0)

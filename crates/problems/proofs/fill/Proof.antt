@@ -21,7 +21,7 @@ use Rattle.problems.proofs.fill.Tie as tie
 
 -- kinds at the front of a list of 256, bodies behind the place of the contents, then the contents of these kinds
 filled : (problems : List ℕ) {kinds page middle after : List ℕ} {end stop : ℕ} → length problems / problemSize ≤ mostCards
-    → Put (replicate 256 0) 0 (kindsOf (cardsFor (length problems / problemSize) problems)) kinds (length problems / problemSize)
+    → Put (replicate mostCards 0) 0 (kindsOf (cardsFor (length problems / problemSize) problems)) kinds (length problems / problemSize)
     → Put page (entryAt (length problems / problemSize)) (bodiesOf (cardsFor (length problems / problemSize) problems)) middle end
     → Put middle 0 (contentsFor (take (length problems / problemSize) kinds)) after stop → Put page 0 (deckOf (cardsFor (length problems / problemSize) problems)) after end
 filled problems {page = page} {middle = middle} {end = end} h listed laid contents =
@@ -29,7 +29,7 @@ filled problems {page = page} {middle = middle} {end = end} h listed laid conten
     let cards = cardsFor n problems in
     let count = as-many n problems in
     let few : length cards ≤ mostCards = omega (arith, count) in
-    let kinds-are = front listed (omega (arith, length-kinds cards, count, length-replicate {A = ℕ} 256 0)) .1 in
+    let kinds-are = front listed (omega (arith, length-kinds cards, count, length-replicate {A = ℕ} mostCards 0)) .1 in
     let place : entryAt n ≡ length (contentsFor (kindsOf cards)) = ap entryAt (sym count) ∙ sym (contents-length cards few) in
     renamed (contents-first cards few) (under (subst (λ (at : ℕ). Put page at (bodiesOf cards) middle end) place laid) (renamed (ap contentsFor kinds-are) contents))
 

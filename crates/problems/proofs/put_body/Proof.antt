@@ -7,6 +7,7 @@ use lib.ListN.{length-replicate}
 use lib.Seq.{length-take-le}
 use Rattle.pieces.proofs.Puts.{renamed, wrote, inside, front}
 use Rattle.conic.specs.Said as conic
+use Rattle.card.specs.Fields.{largestFields}
 use Rattle.card.specs.Made.{bodyFrom, kindFor, answerFor}
 use Rattle.card.proofs.Packed.{made-long, packed-most, body-back}
 use Rattle.problems.specs.Problems.{givenIn}
@@ -25,7 +26,7 @@ returns c =
     let given = givenIn (from .args .made) in
     let said = conic.said (from .args .made .outcome) in
     let kind = from .args .kind in
-    let fields-are = front (c .before .before .before .before .before .before .put-card .ensures) (omega (arith, made-long given (from .pre) said, packed-most (kindFor said), length-replicate {A = ℕ} 124 0)) .1 in
+    let fields-are = front (c .before .before .before .before .before .before .put-card .ensures) (omega (arith, made-long given (from .pre) said, packed-most (kindFor said), length-replicate {A = ℕ} largestFields 0)) .1 in
     renamed (ap (bodyFrom kind) fields-are ∙ body-back kind given (answerFor said) (from .pre)) (wrote (c .before .before .put-body .ensures))
 
 pub put-body-spec : {M : Type 1} → statement M

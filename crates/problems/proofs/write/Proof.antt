@@ -6,8 +6,9 @@ use native.Mathlib.Omega.{arith}
 use borrow.Author.Needs.{needs}
 use lib.ListN.{length}
 use Rattle.rows.specs.Rows.{pass}
-use Rattle.card.specs.Fields.{problemSize}
+use Rattle.card.specs.Fields.{problemSize, largestBody}
 use Rattle.card.proofs.Sizes.{solved-size}
+use Rattle.contents.specs.Contents.{headerSize, entrySize}
 use Rattle.layout.specs.Layout.{deckOf}
 use Rattle.layout.specs.Written.{lengthFor, bufferAfter}
 use Rattle.layout.proofs.Sizes.{deck-within}
@@ -24,7 +25,7 @@ returns-2 : tie.Need-returns-2
 returns-2 c = refused-writes (c .before .before .before .before .args .buffer .now) (ends-inside (c .before .before .before .before .args .problems .now) (omega arith) (c .if2 .taken))
 
 -- the bytes of the largest body
-largest : (c : tie.After-size) → c .size .result ≡ 128
+largest : (c : tie.After-size) → c .size .result ≡ largestBody
 largest c = c .size .ensures ∙ solved-size
 
 -- the cards of problems that are whole
@@ -41,7 +42,7 @@ returns-4 : tie.Need-returns-4
 returns-4 c =
     let problems = c .before .before .before .before .before .before .before .before .before .before .args .problems .now in
     let n : ℕ = length problems / problemSize in
-    let room : 8 + n * (12 + 128) ≤ length (c .before .before .before .before .before .before .before .before .before .before .args .buffer .now) = rw (largest (c .before .before .before .before .before)) at (c .before .before .before .before .if3 .left) in
+    let room : headerSize + n * (entrySize + largestBody) ≤ length (c .before .before .before .before .before .before .before .before .before .before .args .buffer .now) = rw (largest (c .before .before .before .before .before)) at (c .before .before .before .before .if3 .left) in
     let fits : length (deckOf (cardsFor n problems)) ≤ length (c .before .before .before .before .before .before .before .before .before .before .args .buffer .now) = omega (arith, deck-within (cardsFor n problems) (sized problems), as-many n problems, room) in
     deck-writes (whole (c .before .before .before .before .before)) fits (c .before .before .fill .ensures)
 

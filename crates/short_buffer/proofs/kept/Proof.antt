@@ -2,7 +2,6 @@
 use Prim.Native.Nat.{_-_}
 use native.Mathlib.Omega.{arith}
 use borrow.Author.Needs.{needs}
-use lib.ListN.{length}
 use Rattle.short_buffer.proofs.kept.Statement.{statement}
 use Rattle.short_buffer.proofs.kept.Tie as tie
 
@@ -10,7 +9,7 @@ abbrev Inv-loop : tie.InvT-loop
 Inv-loop buffer sum₀ i₀ sum i = Unit
 
 abbrev μ-loop : tie.MeasureT-loop
-μ-loop buffer sum₀ i₀ sum i = length buffer - i
+μ-loop buffer sum₀ i₀ sum i = 150 - i
 
 pub kept-spec : {M : Type 1} → statement M
-kept-spec = tie.close (tie.spec Inv-loop μ-loop (λ c. tt) (λ c. search needs) (λ c κs. search needs) (λ c. omega arith) (λ c. omega arith) (λ c. tt) (λ c. search needs))
+kept-spec = tie.close (tie.spec Inv-loop μ-loop (λ c. tt) (λ c. search needs) (λ c κs. search needs) (λ c κs. search needs) (λ c κs. search needs) (λ c. omega arith) (λ c. omega arith) (λ c. tt) (λ c. search needs))

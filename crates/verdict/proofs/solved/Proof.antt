@@ -1,9 +1,9 @@
 -- `verdict::solved` meets its contract: the spare, the entry's refusal, or what x comes to.
 use mathlib.Core.Path.{_≡_, refl, ap, _∙_}
 use borrow.Author.Tests.{ne-eqb, eq-eqb}
-use Rattle.rows.specs.Rows.{must, onward}
+use Rattle.rows.specs.Rows.{must, onward, refusalIn}
 use Rattle.entry.specs.Said.{passedStart}
-use Rattle.verdict.specs.Said.{rejected, refusalIn}
+use Rattle.ruling.specs.Said.{rejected}
 use Rattle.verdict.specs.Verdict.{atX, solvedCard}
 use borrow.Author.Needs.{needs}
 use Rattle.verdict.proofs.solved.Statement.{statement}

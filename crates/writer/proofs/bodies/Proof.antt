@@ -23,7 +23,7 @@ loop-holds : tie.Need-loop-holds Inv-loop μ-loop
 loop-holds c = begin (c .before .before .before .args .kinds .now) (c .before .before .before .args .fields .now) (c .before .before .before .args .buffer .now) (c .before .before .before .args .start) (c .before .before .before .pre .0) (c .before .before .before .pre .1)
 
 same-length : tie.Need-same-length Inv-loop μ-loop
-same-length c = c .before .before .before .before .before .loop .inv .as-long
+same-length c = c .before .before .before .before .before .loop .inv .pieces .as-long
 
 returns : tie.Need-returns Inv-loop μ-loop
 returns c = absurd (never-unknown (c .before .before .before .before .before .loop .inv) 34 (omega arith) (sym (c .before .before .kind-of .ensures) ∙ ap named (c .enum-told .given .1)))
@@ -73,5 +73,5 @@ bodies-spec =
     (λ c. omega arith)
     (λ c. omega arith)
     loop-again
-    (λ c. c .before .loop .inv .as-long)
+    (λ c. c .before .loop .inv .pieces .as-long)
     returns-2)

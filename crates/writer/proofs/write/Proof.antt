@@ -60,7 +60,6 @@ pub write-spec : {M : Type 1} → statement M
 write-spec =
     tie.close
     (tie.spec
-    (λ c. search needs)
     returns
     (λ c κs. search needs)
     (λ c. search needs)

@@ -1,16 +1,10 @@
 -- What a verdict says, in the numbers and values of RULES, Verdicts. Definitions only.
 use Prim.Native.Nat.{ℕ}
 use lib.Ieee.{Float}
-use Rattle.rows.specs.Rows.{Checked, pass, refuse}
-use Rattle.verdict.specs.declared.Fault.{Fault}
-use Rattle.verdict.specs.declared.Fault.the-variants as fault
-use Rattle.verdict.specs.declared.Verdict.{Verdict}
-use Rattle.verdict.specs.declared.Verdict.the-variants as verdict
-
--- the number of a refusal; 0 where there is none
-abbrev pub refusalIn : {A : Type 0} → Checked A → ℕ
-refusalIn (pass x) = 0
-refusalIn (refuse k) = k
+use Rattle.ruling.specs.declared.Fault.{Fault}
+use Rattle.ruling.specs.declared.Fault.the-variants as fault
+use Rattle.ruling.specs.declared.Verdict.{Verdict}
+use Rattle.ruling.specs.declared.Verdict.the-variants as verdict
 
 -- Verdicts: the numbers that no prediction is refused with
 abbrev pub faultNumber : Fault → ℕ

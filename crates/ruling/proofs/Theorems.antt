@@ -1,10 +1,10 @@
--- What a verdict says can be undone, so `said` is one to one, and the contract of `judge` has one answer.
+-- What a verdict says can be undone, so `said` is one to one, and the contract of `verdict::judge` has one answer.
 use mathlib.Core.Path.{_≡_, refl}
 use Rattle.coincidence.specs.Coincidence.{OneToOne}
 use Rattle.coincidence.proofs.Laws.{undone}
-use Rattle.verdict.specs.declared.Verdict.{Verdict}
-use Rattle.verdict.specs.declared.Verdict.the-variants as verdict
-use Rattle.verdict.specs.Said.{Said, solved, refused, rejected, said}
+use Rattle.ruling.specs.declared.Verdict.{Verdict}
+use Rattle.ruling.specs.declared.Verdict.the-variants as verdict
+use Rattle.ruling.specs.Said.{Said, solved, refused, rejected, said}
 
 abbrev unsaid : Said → Verdict
 unsaid (solved residual) = verdict.Solved residual
