@@ -5,18 +5,19 @@ use Prim.Native.Nat.{ℕ, zero, suc, _+_, _-_, _*_, _/_, _≤_, _<_}
 use native.Mathlib.Numerals.{add-one}
 use native.Mathlib.Omega.{arith}
 use lib.ListN.{length, take, drop, set, length-drop}
-use lib.Seq.{length-take-le, drop-drop}
+use lib.Seq.{drop-drop}
 use Rattle.pieces.specs.Pieces.{Put}
 use Rattle.pieces.proofs.Puts as pieces
 use Rattle.pieces.proofs.Puts.{puts, none, renamed, at-once}
-use Rattle.conic.specs.Said as conic
-use Rattle.kepler.specs.Kepler.{keplerOf}
-use Rattle.card.specs.Fields.{Card, kindNumber, problemSize, problemOf}
-use Rattle.card.specs.Made.{cardFor}
+use Rattle.rows.specs.Rows.{pass}
+use Rattle.card.specs.declared.Kind.{Kind}
+use Rattle.card.specs.Fields.{Card, kindNumber, problemSize}
 use Rattle.layout.specs.Layout.{bodiesOf}
 use Rattle.layout.specs.Packed.{kindsOf}
 use Rattle.layout.proofs.Packed.{kinds-behind, bodies-behind}
-use Rattle.problems.specs.Problems.{cardOf, cardsFor}
+use Rattle.predicted.specs.Predicted.{cardOf, firstCard, placedIn, withBody}
+use Rattle.predicted.proofs.First.{placed}
+use Rattle.problems.specs.Problems.{cardsFor}
 
 -- the card of the problem at place i, as the last of the first i + 1
 last-card : (i : ℕ) (problems : List ℕ) → cardsFor (suc i) problems ≡ cardsFor i problems ++ (cardOf (take problemSize (drop (problemSize * i) problems)) ∷ [])
@@ -42,33 +43,31 @@ module _ {problems kinds₀ page₀ : List ℕ} {from : ℕ} {kinds page : List 
   pub room : problemSize ≤ length problems - at → length problems / problemSize ≤ length kinds₀ → i + 1 ≤ length kinds
   room h most = omega (arith, s .place, s .within, pieces.as-long (s .listed))
 
-  -- its bytes
-  pub given-size : problemSize ≤ length problems - at → length (take problemSize (drop at problems)) ≡ problemSize
-  given-size h = length-take-le problemSize (drop at problems) (omega (arith, length-drop at problems))
+  -- and its bytes are there
+  pub whole : problemSize ≤ length problems - at → problemSize ≤ length (drop at problems)
+  whole h = omega (arith, length-drop at problems)
 
   -- its card
-  next-card : (said : conic.Said) → said ≡ keplerOf (problemOf (take problemSize (drop at problems)))
-      → cardsFor i problems ++ (cardFor (take problemSize (drop at problems)) said ∷ []) ≡ cardsFor (i + 1) problems
-  next-card said e =
-      ap (λ (a : conic.Said). cardsFor i problems ++ (cardFor (take problemSize (drop at problems)) a ∷ [])) e
-      ∙ ap (λ (n : ℕ). cardsFor i problems ++ (cardOf (take problemSize (drop n problems)) ∷ [])) (s .place)
+  next-card : cardsFor i problems ++ (cardOf (take problemSize (drop at problems)) ∷ []) ≡ cardsFor (i + 1) problems
+  next-card =
+      ap (λ (n : ℕ). cardsFor i problems ++ (cardOf (take problemSize (drop n problems)) ∷ [])) (s .place)
       ∙ sym (last-card i problems)
       ∙ ap (λ (n : ℕ). cardsFor n problems) (sym (add-one i))
 
   -- a problem is answered
-  pub turn : (said : conic.Said) (n : ℕ) {after : List ℕ} {stop : ℕ} → problemSize ≤ length problems - at → length problems / problemSize ≤ length kinds₀
-      → said ≡ keplerOf (problemOf (take problemSize (drop at problems))) → n ≡ kindNumber (cardFor (take problemSize (drop at problems)) said .kind)
-      → Put page end (cardFor (take problemSize (drop at problems)) said .body) after stop
+  pub turn : (n : ℕ) {kind : Kind} {after : List ℕ} {stop : ℕ} → problemSize ≤ length problems - at → length problems / problemSize ≤ length kinds₀
+      → n ≡ kindNumber kind → pass (kind, stop) ≡ placedIn page end (firstCard (drop at problems)) → after ≡ withBody page end (firstCard (drop at problems))
       → Answering problems kinds₀ page₀ from (set kinds i n) after (i + 1) (at + problemSize) stop
-  turn said n h most e k p =
+  turn n h most k e w =
       let cards = cardsFor i problems in
-      let card = cardFor (take problemSize (drop at problems)) said in
-      let number = ap (λ (m : ℕ). kindsOf cards ++ (m ∷ [])) k in
+      let card = cardOf (take problemSize (drop at problems)) in
+      let p = placed (drop at problems) page end (whole h) e w in
+      let number = ap (λ (m : ℕ). kindsOf cards ++ (m ∷ [])) (k ∙ ap kindNumber (p .0)) in
       record {
         place = omega (arith, s .place);
         within = omega (arith, s .within);
-        listed = renamed (number ∙ sym (kinds-behind cards card) ∙ ap kindsOf (next-card said e)) (puts (s .listed) (at-once kinds i (n ∷ []) (room h most)));
-        laid = renamed (sym (bodies-behind cards card) ∙ ap bodiesOf (next-card said e)) (puts (s .laid) p);
+        listed = renamed (number ∙ sym (kinds-behind cards card) ∙ ap kindsOf next-card) (puts (s .listed) (at-once kinds i (n ∷ []) (room h most)));
+        laid = renamed (sym (bodies-behind cards card) ∙ ap bodiesOf next-card) (puts (s .laid) (p .1));
       }
 
   -- after the last one

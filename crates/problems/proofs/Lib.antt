@@ -1,4 +1,3 @@
-mod Given
 mod Answering
 pub mod Made
 pub mod Theorems

@@ -1,17 +1,15 @@
 -- `problems::answer` meets its contract: after each turn, the kinds and the bodies of the cards of the problems so far stand where they belong.
-use mathlib.Core.Path.{_≡_, ap, ap₂, _∙_}
+use mathlib.Core.Path.{_≡_, sym, ap, _∙_}
 use mathlib.Core.List.{List}
-use Prim.Native.Nat.{ℕ, _+_, _-_}
+use Prim.Native.Nat.{ℕ, _-_}
 use native.Mathlib.Omega.{arith}
 use borrow.Author.Needs.{needs}
-use lib.ListN.{length, take, drop}
-use Rattle.pieces.proofs.Puts.{as-long, renamed}
-use Rattle.conic.specs.Said as conic
-use Rattle.kepler.specs.Kepler.{keplerOf}
-use Rattle.card.specs.declared.Kind.{Kind}
-use Rattle.card.specs.Fields.{kindNumber, problemSize, problemOf}
-use Rattle.card.specs.Made.{bodyOf, answerFor}
-use Rattle.problems.proofs.Answering.{Answering, start, room, given-size, turn, count-is}
+use lib.ListN.{length, take, drop, length-drop}
+use lib.Seq.{take-all}
+use Rattle.pieces.proofs.Puts.{as-long}
+use Rattle.predicted.specs.Predicted.{firstCard, placedIn, withBody, said}
+use Rattle.predicted.proofs.First.{never-refused}
+use Rattle.problems.proofs.Answering.{Answering, start, room, whole, turn, count-is}
 use Rattle.problems.proofs.answer.Statement.{statement}
 use Rattle.problems.proofs.answer.Tie as tie
 
@@ -24,36 +22,34 @@ abbrev μ-loop : tie.MeasureT-loop
 loop-holds : tie.Need-loop-holds Inv-loop μ-loop
 loop-holds c = start (c .before .before .before .args .problems .now) (c .before .before .before .args .kinds .now) (c .before .before .before .args .page .now) (c .before .before .before .args .start) (c .before .before .before .pre .1)
 
--- the part that is one problem
-part : (at : ℕ) → at + problemSize - at ≡ problemSize
-part at = omega arith
+-- what is left of the problems, as it is lent
+part : (problems : List ℕ) (at : ℕ) → take (length problems - at) (drop at problems) ≡ drop at problems
+part problems at = take-all (length problems - at) (drop at problems) (omega (arith, length-drop at problems))
 
-one : (at : ℕ) (problems : List ℕ) → take (at + problemSize - at) (drop at problems) ≡ take problemSize (drop at problems)
-one at problems = ap (λ (n : ℕ). take n (drop at problems)) (part at)
-
-answered-requires : tie.Need-answered-requires Inv-loop μ-loop
-answered-requires c κs = ap length (one (c .before .before .loop .at) (c .before .before .before .before .before .before .args .problems .now)) ∙ given-size (c .before .before .loop .inv) (omega arith)
+-- a whole problem is not refused
+never : tie.After-enum-told Inv-loop μ-loop → ⊥
+never c =
+    let s = c .before .before .before .before .before .before .before .before in
+    let problems = s .before .before .before .before .args .problems .now in
+    let lent = ap (λ (l : List ℕ). placedIn (s .loop .page) (s .loop .end) (firstCard l)) (part problems (s .loop .at)) in
+    never-refused (drop (s .loop .at) problems) (s .loop .page) (s .loop .end) (whole (s .loop .inv) (omega arith)) (sym (ap said (c .enum-told .given .1)) ∙ c .before .before .before .before .put .ensures .0 ∙ lent)
 
 slice-write-kinds : tie.Need-slice-write-kinds Inv-loop μ-loop
-slice-write-kinds c = omega (arith, room (c .before .before .before .before .before .loop .inv) (omega arith) (c .before .before .before .before .before .before .before .before .before .pre .0))
-
-put-body-requires : tie.Need-put-body-requires Inv-loop μ-loop
-put-body-requires c κs = ap length (c .before .before .before .answered .ensures .0 ∙ one (c .before .before .before .before .before .before .loop .at) (c .before .before .before .before .before .before .before .before .before .before .args .problems .now)) ∙ given-size (c .before .before .before .before .before .before .loop .inv) (omega arith)
+slice-write-kinds c =
+    let s = c .before .before .before .before .before .before .before .before .before .before in
+    omega (arith, room (s .loop .inv) (omega arith) (s .before .before .before .before .pre .0))
 
 loop-again : tie.Need-loop-again Inv-loop μ-loop
 loop-again c =
-    let from = c .before .before .before .before .before .before .before .before .before .before .before .before .before in
-    let made = c .before .before .before .before .before .before in
-    let whole = one (c .before .before .before .before .before .before .before .before .before .loop .at) (from .args .problems .now) in
-    let said = conic.said (made .answered .result .outcome) in
-    let kind-is = c .before .before .before .before .before .kind-of .ensures in
-    let kepler-said = made .answered .ensures .1 ∙ ap (λ (l : List ℕ). keplerOf (problemOf l)) whole in
-    let number-is = c .before .before .before .before .number .ensures ∙ ap kindNumber kind-is in
-    let body-is = ap₂ (λ (k : Kind) (given : List ℕ). bodyOf k given (answerFor said)) kind-is (made .answered .ensures .0 ∙ whole) in
-    turn (c .before .before .before .before .before .before .before .before .before .loop .inv) said (c .before .before .before .before .number .result) (omega arith) (from .pre .0) kepler-said number-is (renamed body-is (c .before .before .put-body .ensures))
+    let s = c .before .before .before .before .before .before .before .before .before .before in
+    let put = c .before .before .before .before .before .before in
+    let rest-is = part (s .before .before .before .before .args .problems .now) (s .loop .at) in
+    let told = sym (ap said (c .before .before .kind .given .1)) ∙ put .put .ensures .0 ∙ ap (λ (l : List ℕ). placedIn (s .loop .page) (s .loop .end) (firstCard l)) rest-is in
+    let written = put .put .ensures .1 ∙ ap (λ (l : List ℕ). withBody (s .loop .page) (s .loop .end) (firstCard l)) rest-is in
+    turn (s .loop .inv) (c .number .result) (omega arith) (s .before .before .before .before .pre .0) (c .number .ensures) told written
 
-returns : tie.Need-returns Inv-loop μ-loop
-returns c =
+returns-2 : tie.Need-returns-2 Inv-loop μ-loop
+returns-2 c =
     let s = c .before .loop .inv in
     let n = count-is s (omega arith) in
     rw (← n) (s .listed, s .laid)
@@ -66,19 +62,22 @@ answer-spec =
     μ-loop
     loop-holds
     (λ c. c .loop .inv .within)
-    (λ c. omega arith)
-    (λ c. omega arith)
+    (λ c. c .before .loop .inv .within)
+    (λ c. c .before .loop .inv .within)
     (λ c. search needs)
-    (λ c. omega (arith, c .before .loop .inv .within))
-    answered-requires
     (λ c κs. search needs)
+    (λ c. search needs)
+    (λ c. search needs)
+    (λ c. absurd (never c))
+    (λ c. absurd (never c))
+    (λ c. absurd (never c))
     (λ c κs. search needs)
-    (λ c. omega arith)
+    (λ c. search needs)
     slice-write-kinds
-    put-body-requires
+    (λ c. omega arith)
     (λ c. omega arith)
     (λ c. omega arith)
     loop-again
     (λ c. as-long (c .before .loop .inv .listed))
     (λ c. as-long (c .before .loop .inv .laid))
-    returns)
+    returns-2)

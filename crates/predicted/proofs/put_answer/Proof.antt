@@ -1,10 +1,10 @@
--- `problems::put_answer` meets its contract: each case of the outcome is one of the definition.
+-- `predicted::put_answer` meets its contract: each case of the outcome is one of the definition.
 use mathlib.Core.Path.{ap}
 use borrow.Author.Needs.{needs}
 use Rattle.pieces.proofs.Puts.{renamed, wrote}
 use Rattle.words.specs.Words.{bytesOf}
-use Rattle.problems.proofs.put_answer.Statement.{statement}
-use Rattle.problems.proofs.put_answer.Tie as tie
+use Rattle.predicted.proofs.put_answer.Statement.{statement}
+use Rattle.predicted.proofs.put_answer.Tie as tie
 
 returns : tie.Need-returns
 returns c = rw (c .before .before .before .before .before .outcome .given .1) (c .before .before .put-solved .ensures)

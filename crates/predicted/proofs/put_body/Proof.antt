@@ -1,4 +1,4 @@
--- `problems::put_body` meets its contract: a card's fields stand at the front of their array, which has room for them, and its body is made of them.
+-- `predicted::put_body` meets its contract: a card's fields stand at the front of their array, which has room for them, and its body is made of them.
 use mathlib.Core.Path.{sym, ap, _∙_}
 use Prim.Native.Nat.{ℕ}
 use native.Mathlib.Omega.{arith}
@@ -10,9 +10,9 @@ use Rattle.conic.specs.Said as conic
 use Rattle.card.specs.Fields.{largestFields}
 use Rattle.card.specs.Made.{bodyFrom, kindFor, answerFor}
 use Rattle.card.proofs.Packed.{made-long, packed-most, body-back}
-use Rattle.problems.specs.Problems.{givenIn}
-use Rattle.problems.proofs.put_body.Statement.{statement}
-use Rattle.problems.proofs.put_body.Tie as tie
+use Rattle.predicted.specs.Predicted.{givenIn}
+use Rattle.predicted.proofs.put_body.Statement.{statement}
+use Rattle.predicted.proofs.put_body.Tie as tie
 
 array-share-prefix-fields : tie.Need-array-share-prefix-fields
 array-share-prefix-fields c = inside (c .before .put-card .ensures)

@@ -1,4 +1,4 @@
--- `problems::put_words` meets its contract. The invariant: the words that are left, written behind what stands, are all words.
+-- `predicted::put_words` meets its contract. The invariant: the words that are left, written behind what stands, are all words.
 use mathlib.Core.Path.{_≡_, sym, ap, _∙_}
 use mathlib.Core.List.{List, [], _++_}
 use Prim.Native.Nat.{ℕ, _+_, _-_, _≤_, _<_}
@@ -10,8 +10,8 @@ use lib.Seq.{drop-cons}
 use Rattle.pieces.proofs.Puts.{wrote}
 use Rattle.pieces.proofs.InPieces.{InPieces, nothing-yet, one-on, all-there}
 use Rattle.words.specs.Words.{bytesOf, wordsBytes}
-use Rattle.problems.proofs.put_words.Statement.{statement}
-use Rattle.problems.proofs.put_words.Tie as tie
+use Rattle.predicted.proofs.put_words.Statement.{statement}
+use Rattle.predicted.proofs.put_words.Tie as tie
 
 -- the next word, and those behind it
 first : (list : List ℕ) (i : ℕ) → i < length list → bytesOf 8 (getD list i 0) ++ wordsBytes (drop (i + 1) list) ≡ wordsBytes (drop i list)

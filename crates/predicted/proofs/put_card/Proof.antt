@@ -1,8 +1,8 @@
--- `problems::put_card` meets its contract: the words of the numbers, the limit and the answer, one behind the other.
+-- `predicted::put_card` meets its contract: the words of the numbers, the limit and the answer, one behind the other.
 use borrow.Author.Needs.{needs}
 use Rattle.pieces.proofs.Puts.{puts, wrote, inside}
-use Rattle.problems.proofs.put_card.Statement.{statement}
-use Rattle.problems.proofs.put_card.Tie as tie
+use Rattle.predicted.proofs.put_card.Statement.{statement}
+use Rattle.predicted.proofs.put_card.Tie as tie
 
 put-answer-requires : tie.Need-put-answer-requires
 put-answer-requires c κs = inside (wrote (c .before .before .before .put-half .ensures))

@@ -1,8 +1,8 @@
--- `problems::words_of` meets its contract: what `word` ensures, eight times.
+-- `predicted::words_of` meets its contract: what `word` ensures, eight times.
 use mathlib.Core.Path.{refl}
 use borrow.Author.Needs.{needs}
-use Rattle.problems.proofs.words_of.Statement.{statement}
-use Rattle.problems.proofs.words_of.Tie as tie
+use Rattle.predicted.proofs.words_of.Statement.{statement}
+use Rattle.predicted.proofs.words_of.Tie as tie
 
 returns : tie.Need-returns
 returns c = rw (c .before .before .before .before .before .before .before .word .ensures, c .before .before .before .before .before .before .word2 .ensures, c .before .before .before .before .before .word3 .ensures, c .before .before .before .before .word4 .ensures, c .before .before .before .word5 .ensures, c .before .before .word6 .ensures, c .before .word7 .ensures, c .word8 .ensures) refl

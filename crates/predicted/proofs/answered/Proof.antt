@@ -1,4 +1,4 @@
--- `problems::answered` meets its contract: the words and the limit that were read are the bytes, and the outcome is Kepler's.
+-- `predicted::answered` meets its contract: the words and the limit that were read are the bytes, and the outcome is Kepler's.
 use mathlib.Core.Path.{ap, ap₂, _∙_}
 use mathlib.Core.List.{_++_}
 use native.Mathlib.Omega.{arith}
@@ -6,9 +6,9 @@ use borrow.Author.Needs.{needs}
 use Rattle.words.specs.Words.{bytesOf, wordsBytes}
 use Rattle.conic.specs.declared.Problem.{Problem}
 use Rattle.kepler.specs.Kepler.{keplerOf}
-use Rattle.problems.proofs.Given.{given-kept}
-use Rattle.problems.proofs.answered.Statement.{statement}
-use Rattle.problems.proofs.answered.Tie as tie
+use Rattle.predicted.proofs.Given.{given-kept}
+use Rattle.predicted.proofs.answered.Statement.{statement}
+use Rattle.predicted.proofs.answered.Tie as tie
 
 returns : tie.Need-returns
 returns c =

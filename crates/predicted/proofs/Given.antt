@@ -8,7 +8,7 @@ use Rattle.words.specs.Words.{valueAt, bytesOf, wordsBytes}
 use Rattle.words.proofs.Written.{Bytes}
 use Rattle.words.proofs.Standing.{number-stands}
 use Rattle.card.specs.Fields.{problemSize, problemOf}
-use Rattle.problems.specs.Problems.{wordsIn}
+use Rattle.predicted.specs.Predicted.{wordsIn}
 
 module _ (given : List ℕ) (sized : length given ≡ problemSize) (b : Bytes given) where
   -- a word in front of what stands behind it

@@ -1,0 +1,4 @@
+mod Given
+pub mod First
+pub mod Theorems
+pub mod Fixed
