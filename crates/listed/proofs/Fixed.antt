@@ -2,15 +2,10 @@
 use mathlib.Core.Path.{ap}
 use Rattle.coincidence.specs.Coincidence.{Fixes}
 use Rattle.coincidence.proofs.Laws.{one-result}
-use Rattle.listed.proofs.card_line.Reads as card-line
-use Rattle.listed.proofs.card_line.Kinds as card-line-kinds
 use Rattle.listed.proofs.totals_line.Reads as totals-line
 use Rattle.listed.proofs.totals_line.Kinds as totals-line-kinds
 use Rattle.listed.proofs.residual_lines.Reads as residual-lines
 use Rattle.listed.proofs.residual_lines.Kinds as residual-lines-kinds
-
-pub card-line-fixes : Fixes 1 card-line-kinds.ps card-line-kinds.r card-line.Learnt
-card-line-fixes κs a x y v w p q = (one-result (p .0) (q .0), ap (λ l. (tt, (tt, (tt, (l, (tt, tt)))))) (one-result (p .1) (q .1)))
 
 pub totals-line-fixes : Fixes 1 totals-line-kinds.ps totals-line-kinds.r totals-line.Learnt
 totals-line-fixes κs a x y v w p q = (one-result (p .0) (q .0), ap (λ l. (tt, (l, (tt, tt)))) (one-result (p .1) (q .1)))

@@ -1,35 +1,13 @@
-// The lines that a deck's listing is made of: a card's, the totals, mean and worst. docs/RULES.md, The
-// check program's listing.
+// The lines with which a deck's listing ends: the totals, mean and worst. docs/RULES.md, The check
+// program's listing.
 //
 // Every function here is proved, the public ones are total, and the crate assumes nothing.
-use card::Kind;
 use deck::Residuals;
 use deck::Totals;
 ghost use mathlib.Core.Path.{_≡_};
-ghost use Rattle.pieces.specs.Pieces.{putIn, endIn, Put};
+ghost use Rattle.pieces.specs.Pieces.{putIn, endIn};
 ghost use Rattle.deck.specs.Said.{told};
-ghost use Rattle.listed.specs.Listed.{kindWord, placedLine, totalsLine, residualLines};
-
-// `card PLACE KIND VERDICT`, from index at on. Answers where it ends.
-pub fn card_line(place: u32, kind: Kind, verdict: u32, page: &mut [u8], at: usize) -> usize
-    ensures { λ r. ⌜ r ≡ endIn (now (page .entry)) at (placedLine place kind verdict) ⌝ }
-    ensures { λ r. ⌜ now (page .exit) ≡ putIn (now (page .entry)) at (placedLine place kind verdict) ⌝ }
-{
-    let mut end = pieces::put(page, at, b"card");
-    end = text::count(page, end, place);
-    end = kind_word(kind, page, end);
-    end = text::count(page, end, verdict);
-    pieces::put(page, end, b"\n")
-}
-
-fn kind_word(kind: Kind, page: &mut [u8], at: usize) -> usize
-    ensures { λ r. ⌜ Put (now (page .entry)) at (kindWord kind) (now (page .exit)) r ⌝ }
-{
-    match kind {
-        Kind::Solved => pieces::put(page, at, b" solved"),
-        Kind::Refused => pieces::put(page, at, b" refused"),
-    }
-}
+ghost use Rattle.listed.specs.Listed.{totalsLine, residualLines};
 
 // The three totals.
 pub fn totals_line(totals: Totals, page: &mut [u8], at: usize) -> usize

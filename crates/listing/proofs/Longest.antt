@@ -27,7 +27,8 @@ use Rattle.deck.specs.declared.Totals.{Totals}
 use Rattle.deck.specs.Tally.{nothing, counted, countedAll, Residuals, absent, known, residualsOf, totalsOf}
 use Rattle.deck.specs.Check.{verdictsOf}
 use Rattle.deck.proofs.Tallied.{totals-add-up, first-and-others, known-is}
-use Rattle.listed.specs.Listed.{placedLine, totalsLine, residualLines}
+use Rattle.item.specs.Item.{placedLine}
+use Rattle.listed.specs.Listed.{totalsLine, residualLines}
 use Rattle.listing.specs.Listing.{cardLine, cardLines, acceptedLines, linesFor, listingOf, longestListing}
 
 -- ---- the digits of the places

@@ -20,7 +20,7 @@ use Rattle.contents.specs.Contents.{kindAt, cardsOf}
 use Rattle.contents.proofs.Cards.{KindsFrom}
 use Rattle.contents.proofs.Opened.{all-kinds-named}
 use Rattle.deck.specs.Check.{numbersOf}
-use Rattle.listed.specs.Listed.{placedLine}
+use Rattle.item.specs.Item.{placedLine}
 use Rattle.listing.specs.Listing.{verdictNumber, cardLine, cardLines}
 use Rattle.listing.specs.Judged.{Judged}
 

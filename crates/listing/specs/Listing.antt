@@ -10,7 +10,8 @@ use Rattle.verdict.specs.Verdict.{verdictOn}
 use Rattle.deck.specs.Tally.{tallyOf}
 use Rattle.deck.specs.Check.{verdictsOf}
 use Rattle.reply.specs.Reply.{refusedLine}
-use Rattle.listed.specs.Listed.{placedLine, totalsLine, residualLines}
+use Rattle.item.specs.Item.{placedLine}
+use Rattle.listed.specs.Listed.{totalsLine, residualLines}
 
 -- The listing 2: the verdict's number
 abbrev pub verdictNumber : Card → ℕ

@@ -63,7 +63,7 @@ fn cards(deck: &[u8], verdicts: &[u32], count: u32, page: &mut [u8]) -> usize
         let Named::Kind(kind) = contents::kind_at(deck, i) else {
             return end;
         };
-        end = listed::card_line(i + 1, kind, verdicts[place], page, end);
+        end = item::line(i + 1, kind, verdicts[place], page, end);
         i += 1;
     }
     end

@@ -1,8 +1,8 @@
--- `listed::card_line` meets its contract: the five pieces of the line, one behind the other.
+-- `item::line` meets its contract: the five pieces of the line, one behind the other.
 use Rattle.pieces.proofs.Puts.{puts, last, wrote, both}
 use borrow.Author.Needs.{needs}
-use Rattle.listed.proofs.card_line.Statement.{statement}
-use Rattle.listed.proofs.card_line.Tie as tie
+use Rattle.item.proofs.line.Statement.{statement}
+use Rattle.item.proofs.line.Tie as tie
 
 returns : tie.Need-returns
 returns c =
@@ -13,5 +13,5 @@ returns c =
     let s1 = s2 .before .before .before .before in
     both (puts (wrote (s1 .put .ensures)) (puts (wrote (s2 .count .ensures)) (puts (s3 .kind-word .ensures) (puts (wrote (s4 .count2 .ensures)) (last (wrote (s5 .put2 .ensures)))))))
 
-pub card-line-spec : {M : Type 1} → statement M
-card-line-spec = tie.close (tie.spec (λ c. search needs) (λ c κs. search needs) (λ c κs. search needs) (λ c κs. search needs) (λ c κs. search needs) (λ c. search needs) (λ c κs. search needs) (λ c. search needs) returns)
+pub line-spec : {M : Type 1} → statement M
+line-spec = tie.close (tie.spec (λ c. search needs) (λ c κs. search needs) (λ c κs. search needs) (λ c κs. search needs) (λ c κs. search needs) (λ c. search needs) (λ c κs. search needs) (λ c. search needs) returns)

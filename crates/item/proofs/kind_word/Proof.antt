@@ -1,8 +1,8 @@
--- `listed::kind_word` meets its contract: each arm writes the word of its kind.
+-- `item::kind_word` meets its contract: each arm writes the word of its kind.
 use Rattle.pieces.proofs.Puts.{wrote}
 use borrow.Author.Needs.{needs}
-use Rattle.listed.proofs.kind_word.Statement.{statement}
-use Rattle.listed.proofs.kind_word.Tie as tie
+use Rattle.item.proofs.kind_word.Statement.{statement}
+use Rattle.item.proofs.kind_word.Tie as tie
 
 returns : tie.Need-returns
 returns c = rw (c .before .before .before .before .before .enum-told .given .1) (wrote (c .before .before .put .ensures))
