@@ -40,14 +40,16 @@ fields-apart kind body long = body-back kind (take problemSize body) (take (answ
 pub body-cleared : (kind : Kind) (body : List ℕ) → length body ≡ sizeOf kind → Bytes body → SpareZero kind body → bodyFrom kind (fieldsIn kind body) ≡ body
 unfolding sizeOf answerSize
 body-cleared kind.Solved body size b z =
-    let spare-stands = number-stands 4 body 68 72 0 b refl (omega arith) z in
-    let answer-all : take 56 (drop 72 body) ≡ drop 72 body = take-all 56 (drop 72 body) (simp length-drop (omega arith)) in
-    fields-apart kind.Solved body (omega arith) ∙ rw (answer-all, ← spare-stands) (sym (stands body 0 68))
+    let spare-stands = number-stands spareSize body problemSize (problemSize + spareSize) 0 b refl (omega arith) z in
+    let answer-all : take largestAnswer (drop (problemSize + spareSize) body) ≡ drop (problemSize + spareSize) body = take-all largestAnswer (drop (problemSize + spareSize) body) (simp length-drop (omega arith)) in
+    fields-apart kind.Solved body (omega arith) ∙ rw (answer-all, ← spare-stands) (sym (stands body 0 problemSize))
 body-cleared kind.Refused body size b z =
-    let spare-stands = number-stands 4 body 68 72 0 b refl (omega arith) (z .0) in
-    let last-stands : drop 76 body ≡ spare = number-stands 4 body 76 80 0 b refl (omega arith) (z .1) ∙ ap (λ (rest : List ℕ). spare ++ rest) (drop-of-length-le body {i = 80} (omega arith)) ∙ append-nil spare in
-    let answer-stands : drop 72 body ≡ take 4 (drop 72 body) ++ spare = stands body 72 4 ∙ ap (λ (rest : List ℕ). take 4 (drop 72 body) ++ rest) last-stands in
-    fields-apart kind.Refused body (omega arith) ∙ rw (← answer-stands, ← spare-stands) (sym (stands body 0 68))
+    let answer-at : ℕ = problemSize + spareSize in
+    let last-at : ℕ = answer-at + answerSize kind.Refused in
+    let spare-stands = number-stands spareSize body problemSize answer-at 0 b refl (omega arith) (z .0) in
+    let last-stands : drop last-at body ≡ spare = number-stands spareSize body last-at (last-at + spareSize) 0 b refl (omega arith) (z .1) ∙ ap (λ (rest : List ℕ). spare ++ rest) (drop-of-length-le body {i = last-at + spareSize} (omega arith)) ∙ append-nil spare in
+    let answer-stands : drop answer-at body ≡ take (answerSize kind.Refused) (drop answer-at body) ++ spare = stands body answer-at (answerSize kind.Refused) ∙ ap (λ (rest : List ℕ). take (answerSize kind.Refused) (drop answer-at body) ++ rest) last-stands in
+    fields-apart kind.Refused body (omega arith) ∙ rw (← answer-stands, ← spare-stands) (sym (stands body 0 problemSize))
 
 cleared-from : (deck : List ℕ) (left i at : ℕ) (cards : List Card) → Bytes deck → cardsFrom deck left i at ≡ pass cards → SparesZero cards → map cleared cards ≡ cards
 cleared-from deck zero i at cards b h z = rw (no-more deck i at cards h) refl

@@ -5,7 +5,6 @@
 use conic::Outcome;
 use conic::Problem;
 use root::Answer;
-use vectors::Vector;
 ghost use mathlib.Core.Path.{_≡_};
 ghost use Rattle.pieces.specs.Pieces.{putIn, endIn, Put};
 ghost use Rattle.root.specs.Said as root;
@@ -37,8 +36,8 @@ pub fn line(asked: Question, s: &[u8], out: &mut [u8], at: usize) -> usize
 {
     match asked {
         Question::Root => root_line(root::root(card::number(s, 0)), out, at),
-        Question::Kepler => outcome_line(kepler::kepler(card::problem(s)), out, at),
-        Question::Theta => outcome_line(turned(card::problem(s)), out, at),
+        Question::Kepler => outcomes::put(kepler::kepler(card::problem(s)), out, at),
+        Question::Theta => outcomes::put(turned(card::problem(s)), out, at),
     }
 }
 
@@ -65,46 +64,4 @@ fn root_line(answer: Answer, out: &mut [u8], at: usize) -> usize
             pieces::put(out, end, b"\n")
         }
     }
-}
-
-// `solved COUNT X RX RY RZ VX VY VZ`, `refused NUMBER COUNT` or `refused NUMBER COUNT LO HI`.
-fn outcome_line(outcome: Outcome, out: &mut [u8], at: usize) -> usize
-    ensures { λ r. ⌜ Put (now (out .entry)) at (line.outcomeLine (conic.said outcome)) (now (out .exit)) r ⌝ }
-{
-    match outcome {
-        Outcome::Solved { x, count, state } => {
-            let mut end = pieces::put(out, at, b"solved");
-            end = text::count(out, end, count);
-            end = text::number(out, end, x);
-            end = vector(state.r, out, end);
-            end = vector(state.v, out, end);
-            pieces::put(out, end, b"\n")
-        }
-        Outcome::Refused(why, count) => {
-            let end = refusal(why.number(), count, out, at);
-            pieces::put(out, end, b"\n")
-        }
-        Outcome::RefusedWithBracket(why, count, lo, hi) => {
-            let mut end = refusal(why.number(), count, out, at);
-            end = text::number(out, end, lo);
-            end = text::number(out, end, hi);
-            pieces::put(out, end, b"\n")
-        }
-    }
-}
-
-fn refusal(number: u32, count: u32, out: &mut [u8], at: usize) -> usize
-    ensures { λ r. ⌜ Put (now (out .entry)) at (line.refusal number count) (now (out .exit)) r ⌝ }
-{
-    let mut end = pieces::put(out, at, b"refused");
-    end = text::count(out, end, number);
-    text::count(out, end, count)
-}
-
-fn vector(v: Vector, out: &mut [u8], at: usize) -> usize
-    ensures { λ r. ⌜ Put (now (out .entry)) at (line.vector v) (now (out .exit)) r ⌝ }
-{
-    let mut end = text::number(out, at, v.x);
-    end = text::number(out, end, v.y);
-    text::number(out, end, v.z)
 }

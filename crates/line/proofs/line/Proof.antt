@@ -6,9 +6,10 @@ use Rattle.root.specs.Root.{rootOf}
 use Rattle.kepler.specs.Kepler.{keplerOf}
 use Rattle.card.specs.Fields.{numberAt, problemOf}
 use Rattle.line.specs.declared.Question.the-variants as question
-use Rattle.line.specs.Line.{lineOf, rootLine, outcomeLine, turned}
+use Rattle.outcomes.specs.Outcomes.{outcomeLine}
+use Rattle.line.specs.Line.{lineOf, rootLine, turned}
 use Rattle.pieces.specs.Pieces.{Put}
-use Rattle.pieces.proofs.Puts.{renamed, both}
+use Rattle.pieces.proofs.Puts.{renamed, wrote, both}
 use borrow.Author.Needs.{needs}
 use Rattle.line.proofs.line.Statement.{statement}
 use Rattle.line.proofs.line.Tie as tie
@@ -41,13 +42,13 @@ returns-2 : tie.Need-returns-2
 returns-2 c =
     let line = c .before .before in
     let answer = line .before .before in
-    rw (answer .before .before .enum-told2 .given .1) (both (as-asked outcomeLine keplerOf (kepler-of _) (answer .before .problem .ensures) (answer .kepler .ensures) (line .outcome-line .ensures)))
+    rw (answer .before .before .enum-told2 .given .1) (both (as-asked outcomeLine keplerOf (kepler-of _) (answer .before .problem .ensures) (answer .kepler .ensures) (wrote (line .put .ensures))))
 
 returns-3 : tie.Need-returns-3
 returns-3 c =
     let line = c .before .before in
     let answer = line .before .before in
-    rw (answer .before .before .enum-told3 .given .1) (both (as-asked outcomeLine turned (theta-of _) (answer .before .problem2 .ensures) (answer .turned .ensures) (line .outcome-line2 .ensures)))
+    rw (answer .before .before .enum-told3 .given .1) (both (as-asked outcomeLine turned (theta-of _) (answer .before .problem2 .ensures) (answer .turned .ensures) (wrote (line .put2 .ensures))))
 
 pub line-spec : {M : Type 1} → statement M
 line-spec =

@@ -1,8 +1,8 @@
--- `line::refusal` meets its contract.
+-- `outcomes::refusal` meets its contract.
 use Rattle.pieces.proofs.Puts.{puts, last, wrote}
 use borrow.Author.Needs.{needs}
-use Rattle.line.proofs.refusal.Statement.{statement}
-use Rattle.line.proofs.refusal.Tie as tie
+use Rattle.outcomes.proofs.refusal.Statement.{statement}
+use Rattle.outcomes.proofs.refusal.Tie as tie
 
 returns : tie.Need-returns
 returns c =

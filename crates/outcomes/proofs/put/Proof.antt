@@ -1,8 +1,8 @@
--- `line::outcome_line` meets its contract.
-use Rattle.pieces.proofs.Puts.{puts, last, wrote}
+-- `outcomes::put` meets its contract: in each case the pieces of the line, one behind the other.
+use Rattle.pieces.proofs.Puts.{puts, last, wrote, both}
 use borrow.Author.Needs.{needs}
-use Rattle.line.proofs.outcome_line.Statement.{statement}
-use Rattle.line.proofs.outcome_line.Tie as tie
+use Rattle.outcomes.proofs.put.Statement.{statement}
+use Rattle.outcomes.proofs.put.Tie as tie
 
 returns : tie.Need-returns
 returns c =
@@ -14,12 +14,12 @@ returns c =
     let at6 = at5 .before .before .before .before in
     let at7 = at6 .before .before .before .before in
     rw (at7 .outcome .given .1)
-    (puts (wrote (at6 .put .ensures))
+    (both (puts (wrote (at6 .put .ensures))
     (puts (wrote (at5 .count .ensures))
     (puts (wrote (at4 .number .ensures))
     (puts (at3 .vector .ensures)
     (puts (at2 .vector2 .ensures)
-    (last (wrote (at1 .put2 .ensures))))))))
+    (last (wrote (at1 .put2 .ensures)))))))))
 
 returns-2 : tie.Need-returns-2
 returns-2 c =
@@ -28,8 +28,8 @@ returns-2 c =
     let at3 = at2 .before .before in
     let at4 = at3 .before .before in
     rw (at4 .outcome2 .given .1, ← at3 .number2 .ensures)
-    (puts (at2 .refusal .ensures)
-    (last (wrote (at1 .put3 .ensures))))
+    (both (puts (at2 .refusal .ensures)
+    (last (wrote (at1 .put3 .ensures)))))
 
 returns-3 : tie.Need-returns-3
 returns-3 c =
@@ -40,13 +40,13 @@ returns-3 c =
     let at5 = at4 .before .before in
     let at6 = at5 .before .before in
     rw (at6 .outcome3 .given .1, ← at5 .number3 .ensures)
-    (puts (at4 .refusal2 .ensures)
+    (both (puts (at4 .refusal2 .ensures)
     (puts (wrote (at3 .number4 .ensures))
     (puts (wrote (at2 .number5 .ensures))
-    (last (wrote (at1 .put4 .ensures))))))
+    (last (wrote (at1 .put4 .ensures)))))))
 
-pub outcome-line-spec : {M : Type 1} → statement M
-outcome-line-spec =
+pub put-spec : {M : Type 1} → statement M
+put-spec =
     tie.close
     (tie.spec
     (λ c. search needs)

@@ -1,8 +1,8 @@
--- `line::vector` meets its contract: three numbers one behind the other.
+-- `outcomes::vector` meets its contract: three numbers one behind the other.
 use Rattle.pieces.proofs.Puts.{puts, last, wrote}
 use borrow.Author.Needs.{needs}
-use Rattle.line.proofs.vector.Statement.{statement}
-use Rattle.line.proofs.vector.Tie as tie
+use Rattle.outcomes.proofs.vector.Statement.{statement}
+use Rattle.outcomes.proofs.vector.Tie as tie
 
 returns : tie.Need-returns
 returns c =
