@@ -9,7 +9,7 @@ use Rattle.words.proofs.Written.{length-bytes}
 use Rattle.conic.specs.Said as conic
 use Rattle.card.specs.declared.Kind.{Kind}
 use Rattle.card.specs.declared.Kind.the-variants as kind
-use Rattle.card.specs.Fields.{sizeOf, problemSize, spareSize, answerSize, packedSize, largestFields}
+use Rattle.card.specs.Fields.{sizeOf, problemSize, spareSize, answerSize, packedSize, largestFields, answerAt}
 use Rattle.card.specs.Made.{spare, bodyOf, fieldsIn, bodyFrom, solvedNumbers, kindFor, answerFor, cardFor}
 use Rattle.card.proofs.Numbers.{length-numbers}
 
@@ -29,7 +29,7 @@ pub length-body : (k : Kind) (f : List ℕ) → length f ≡ packedSize k → le
 length-body k f h = body-size k (take problemSize f) (drop problemSize f) (given-size k f h) (answer-size k f h)
 
 -- a body has room for problem, spare and answer
-pub answer-inside : (k : Kind) → problemSize + spareSize + answerSize k ≤ sizeOf k
+pub answer-inside : (k : Kind) → answerAt + answerSize k ≤ sizeOf k
 unfolding sizeOf answerSize
 answer-inside kind.Solved = omega arith
 answer-inside kind.Refused = omega arith
@@ -43,12 +43,12 @@ packed-most kind.Refused = omega arith
 pub length-fields : (k : Kind) (body : List ℕ) → length body ≡ sizeOf k → length (fieldsIn k body) ≡ packedSize k
 length-fields k body h =
     let first : length (take problemSize body) ≡ problemSize = length-take-le problemSize body (omega (arith, h, answer-inside k)) in
-    let left : length (drop (problemSize + spareSize) body) ≡ length body - (problemSize + spareSize) = length-drop (problemSize + spareSize) body in
-    let second : length (take (answerSize k) (drop (problemSize + spareSize) body)) ≡ answerSize k = length-take-le (answerSize k) (drop (problemSize + spareSize) body) (omega (arith, h, left, answer-inside k)) in
+    let left : length (drop answerAt body) ≡ length body - answerAt = length-drop answerAt body in
+    let second : length (take (answerSize k) (drop answerAt body)) ≡ answerSize k = length-take-le (answerSize k) (drop answerAt body) (omega (arith, h, left, answer-inside k)) in
     length-append (take problemSize body) _ ∙ ap₂ _+_ first second
 
 -- what stands behind the problem's spare begins with the answer
-behind : (k : Kind) (given answer : List ℕ) → length given ≡ problemSize → length answer ≡ answerSize k → take (answerSize k) (drop (problemSize + spareSize) (bodyOf k given answer)) ≡ answer
+behind : (k : Kind) (given answer : List ℕ) → length given ≡ problemSize → length answer ≡ answerSize k → take (answerSize k) (drop answerAt (bodyOf k given answer)) ≡ answer
 behind kind.Solved given answer g a =
     ap (take (answerSize kind.Solved)) (sym (drop-drop spareSize problemSize (bodyOf kind.Solved given answer)) ∙ ap (drop spareSize) (drop-at given (spare ++ answer) problemSize g) ∙ drop-at spare answer spareSize (length-bytes spareSize 0))
     ∙ take-all (answerSize kind.Solved) answer (omega (arith, a))

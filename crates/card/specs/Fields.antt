@@ -68,21 +68,25 @@ unfoldable pub problemOf : List ℕ → Problem
 problemOf body = record { mu = numberAt body 0; r = vectorAt body 8; v = vectorAt body 32; dt = numberAt body 56; limit = valueAt 4 body 64 }
 
 abbrev pub spareOf : List ℕ → ℕ
-spareOf body = valueAt 4 body 68
+spareOf body = valueAt spareSize body problemSize
 
--- The deck 5, behind the problem: x, and where position and velocity begin
+-- The deck 5 and 6: where the answer begins
+abbrev pub answerAt : ℕ
+answerAt = problemSize + spareSize
+
+-- The deck 5: x, and where position and velocity begin
 abbrev pub xOf : List ℕ → Float
-xOf body = numberAt body 72
+xOf body = numberAt body answerAt
 
 abbrev pub positionAt : ℕ
-positionAt = 80
+positionAt = answerAt + 8
 
 abbrev pub velocityAt : ℕ
-velocityAt = 104
+velocityAt = positionAt + 24
 
--- The deck 6, behind the problem: the refusal's number and the last spare
+-- The deck 6: the refusal's number and the last spare
 abbrev pub refusalOf : List ℕ → ℕ
-refusalOf body = valueAt 4 body 72
+refusalOf body = valueAt 4 body answerAt
 
 abbrev pub lastSpareOf : List ℕ → ℕ
-lastSpareOf body = valueAt 4 body 76
+lastSpareOf body = valueAt spareSize body (answerAt + 4)

@@ -11,7 +11,7 @@ use Rattle.conic.specs.declared.Problem.{Problem}
 use Rattle.conic.specs.Said as conic
 use Rattle.card.specs.declared.Kind.{Kind}
 use Rattle.card.specs.declared.Kind.the-variants as kind
-use Rattle.card.specs.Fields.{Card, problemSize, spareSize, answerSize}
+use Rattle.card.specs.Fields.{Card, problemSize, spareSize, answerSize, answerAt}
 
 -- numbers as words of eight bytes
 abbrev pub numbersBytes : List Float → List ℕ
@@ -32,7 +32,7 @@ bodyOf kind.Refused given answer = given ++ (spare ++ (answer ++ spare))
 
 -- Writing a deck 2: the fields in a body, without its spares; and the body that has these fields
 abbrev pub fieldsIn : Kind → (body : List ℕ) → List ℕ
-fieldsIn kind body = take problemSize body ++ take (answerSize kind) (drop (problemSize + spareSize) body)
+fieldsIn kind body = take problemSize body ++ take (answerSize kind) (drop answerAt body)
 
 abbrev pub bodyFrom : Kind → (fields : List ℕ) → List ℕ
 bodyFrom kind fields = bodyOf kind (take problemSize fields) (drop problemSize fields)

@@ -10,8 +10,11 @@ ghost use Prim.Native.Nat.{_≤_};
 ghost use Rattle.card.specs.Fields.{kindOf, kindNumber, sizeOf, packedSize, numberAt, vectorAt, problemOf};
 ghost use Rattle.card.specs.Said.{named};
 
-// A problem's bytes; those of a body and of its fields without a spare, at most: a solved card's.
+// A problem's bytes, and those of a spare; those of a body and of its fields without a spare, at most:
+// a solved card's.
 pub const PROBLEM: usize = 68;
+
+const SPARE_SIZE: usize = 4;
 
 pub const BODY: usize = 128;
 
@@ -21,15 +24,15 @@ pub const FIELDS: usize = 124;
 // velocity; of a refused one the number and a spare.
 pub const SPARE: usize = PROBLEM;
 
-pub const X: usize = 72;
+pub const X: usize = SPARE + SPARE_SIZE;
 
-pub const POSITION: usize = 80;
+pub const POSITION: usize = X + 8;
 
-pub const VELOCITY: usize = 104;
+pub const VELOCITY: usize = POSITION + 24;
 
-pub const NUMBER: usize = 72;
+pub const NUMBER: usize = X;
 
-pub const LAST_SPARE: usize = 76;
+pub const LAST_SPARE: usize = NUMBER + 4;
 
 pub enum Kind {
     Solved,

@@ -14,7 +14,7 @@ pub fn copy(deck: &[u8], buffer: &mut [u8]) -> Written
     ensures { λ r. ⌜ now (buffer .exit) ≡ bufferAfter (copyOf (now (deck .entry))) (now (buffer .entry)) ⌝ }
 {
     let mut kinds = [0u32; contents::MOST_CARDS];
-    let mut fields = [0u8; layout::FIELDS];
+    let mut fields = [0u8; layout::MOST_FIELDS];
     match apart::take(deck, &mut kinds, &mut fields) {
         Apart::Refused(why) => Written::Refused(why),
         Apart::Cards(count, size) => writer::write(

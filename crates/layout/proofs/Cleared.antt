@@ -11,7 +11,7 @@ use Rattle.words.proofs.Standing.{stands, number-stands, bytes-first}
 use Rattle.rows.specs.Rows.{pass}
 use Rattle.card.specs.declared.Kind.{Kind}
 use Rattle.card.specs.declared.Kind.the-variants as kind
-use Rattle.card.specs.Fields.{Card, problemSize, spareSize, largestAnswer, answerSize, sizeOf, spareOf, lastSpareOf}
+use Rattle.card.specs.Fields.{Card, problemSize, spareSize, largestAnswer, answerSize, answerAt, sizeOf, spareOf, lastSpareOf}
 use Rattle.card.specs.Made.{spare, bodyOf, fieldsIn, bodyFrom}
 use Rattle.card.proofs.Packed.{body-back}
 use Rattle.contents.specs.Contents.{entryAt, mostCards, countOf, cardsFrom, cardsOf}
@@ -34,21 +34,20 @@ SparesZero [] = Unit
 SparesZero (c ∷ cards) = SpareZero (c .kind) (c .body) × SparesZero cards
 
 -- the fields of a body come apart again
-fields-apart : (kind : Kind) (body : List ℕ) → problemSize ≤ length body → bodyFrom kind (fieldsIn kind body) ≡ bodyOf kind (take problemSize body) (take (answerSize kind) (drop (problemSize + spareSize) body))
-fields-apart kind body long = body-back kind (take problemSize body) (take (answerSize kind) (drop (problemSize + spareSize) body)) (length-take-le problemSize body long)
+fields-apart : (kind : Kind) (body : List ℕ) → problemSize ≤ length body → bodyFrom kind (fieldsIn kind body) ≡ bodyOf kind (take problemSize body) (take (answerSize kind) (drop answerAt body))
+fields-apart kind body long = body-back kind (take problemSize body) (take (answerSize kind) (drop answerAt body)) (length-take-le problemSize body long)
 
 pub body-cleared : (kind : Kind) (body : List ℕ) → length body ≡ sizeOf kind → Bytes body → SpareZero kind body → bodyFrom kind (fieldsIn kind body) ≡ body
 unfolding sizeOf answerSize
 body-cleared kind.Solved body size b z =
-    let spare-stands = number-stands spareSize body problemSize (problemSize + spareSize) 0 b refl (omega arith) z in
-    let answer-all : take largestAnswer (drop (problemSize + spareSize) body) ≡ drop (problemSize + spareSize) body = take-all largestAnswer (drop (problemSize + spareSize) body) (simp length-drop (omega arith)) in
+    let spare-stands = number-stands spareSize body problemSize answerAt 0 b refl (omega arith) z in
+    let answer-all : take largestAnswer (drop answerAt body) ≡ drop answerAt body = take-all largestAnswer (drop answerAt body) (simp length-drop (omega arith)) in
     fields-apart kind.Solved body (omega arith) ∙ rw (answer-all, ← spare-stands) (sym (stands body 0 problemSize))
 body-cleared kind.Refused body size b z =
-    let answer-at : ℕ = problemSize + spareSize in
-    let last-at : ℕ = answer-at + answerSize kind.Refused in
-    let spare-stands = number-stands spareSize body problemSize answer-at 0 b refl (omega arith) (z .0) in
+    let last-at : ℕ = answerAt + answerSize kind.Refused in
+    let spare-stands = number-stands spareSize body problemSize answerAt 0 b refl (omega arith) (z .0) in
     let last-stands : drop last-at body ≡ spare = number-stands spareSize body last-at (last-at + spareSize) 0 b refl (omega arith) (z .1) ∙ ap (λ (rest : List ℕ). spare ++ rest) (drop-of-length-le body {i = last-at + spareSize} (omega arith)) ∙ append-nil spare in
-    let answer-stands : drop answer-at body ≡ take (answerSize kind.Refused) (drop answer-at body) ++ spare = stands body answer-at (answerSize kind.Refused) ∙ ap (λ (rest : List ℕ). take (answerSize kind.Refused) (drop answer-at body) ++ rest) last-stands in
+    let answer-stands : drop answerAt body ≡ take (answerSize kind.Refused) (drop answerAt body) ++ spare = stands body answerAt (answerSize kind.Refused) ∙ ap (λ (rest : List ℕ). take (answerSize kind.Refused) (drop answerAt body) ++ rest) last-stands in
     fields-apart kind.Refused body (omega arith) ∙ rw (← answer-stands, ← spare-stands) (sym (stands body 0 problemSize))
 
 cleared-from : (deck : List ℕ) (left i at : ℕ) (cards : List Card) → Bytes deck → cardsFrom deck left i at ≡ pass cards → SparesZero cards → map cleared cards ≡ cards

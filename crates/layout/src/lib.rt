@@ -16,7 +16,7 @@ ghost use Rattle.contents.specs.Contents.{entryAt, mostCards, largestDeck};
 ghost use Rattle.layout.specs.Layout.{entryFor, entriesFrom, namedIn, contentsFor};
 
 // The most bytes that the fields of a deck's cards have.
-pub const FIELDS: usize = contents::MOST_CARDS * card::FIELDS;
+pub const MOST_FIELDS: usize = contents::MOST_CARDS * card::FIELDS;
 
 // The length of the deck that was written, or why none was.
 pub enum Written {

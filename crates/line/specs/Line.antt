@@ -9,7 +9,7 @@ use Rattle.conic.specs.declared.Problem.{Problem}
 use Rattle.conic.specs.Said as conic
 use Rattle.kepler.specs.Kepler.{keplerOf}
 use Rattle.theta.specs.Theta.{thetaOf}
-use Rattle.card.specs.Fields.{numberAt, problemOf}
+use Rattle.card.specs.Fields.{problemSize, numberAt, problemOf}
 use Rattle.outcomes.specs.Outcomes.{outcomeLine, mostOutcome}
 use Rattle.line.specs.declared.Question.{Question}
 use Rattle.line.specs.declared.Question.the-variants as question
@@ -17,7 +17,7 @@ use Rattle.line.specs.declared.Question.the-variants as question
 -- Lines 1: the bytes of one record
 abbrev pub widthOf : Question → ℕ
 widthOf question.Root = 8
-widthOf question.Kepler = 68
+widthOf question.Kepler = problemSize
 widthOf question.Theta = 64
 
 -- Lines 2: `root WORD` or `refused NUMBER`
@@ -37,7 +37,7 @@ lineOf question.Theta bytes = outcomeLine (turned (problemOf bytes))
 
 -- no record has more bytes
 abbrev pub mostWidth : ℕ
-mostWidth = 68
+mostWidth = problemSize
 
 -- no line has more bytes
 abbrev pub mostLine : ℕ

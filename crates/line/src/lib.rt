@@ -24,7 +24,7 @@ pub fn width(asked: Question) -> usize
 {
     match asked {
         Question::Root => 8,
-        Question::Kepler => 68,
+        Question::Kepler => card::PROBLEM,
         Question::Theta => 64,
     }
 }

@@ -1,4 +1,4 @@
--- A loop that writes piece by piece: what is left, written where the last piece ended, makes the whole. The invariant of each such loop has this record.
+-- A loop that writes piece by piece what a definition makes from the front: what is left, written where the last piece ended, makes the whole.
 use mathlib.Core.Path.{_≡_, refl, sym, _∙_}
 use mathlib.Core.List.{List, [], _++_}
 use Prim.Native.Nat.{ℕ, _≤_}

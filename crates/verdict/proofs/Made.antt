@@ -23,7 +23,7 @@ use Rattle.conic.proofs.Fitting.{StateFits, ProblemFits, state-fits}
 use Rattle.kepler.specs.Kepler.{keplerOf}
 use Rattle.kepler.proofs.Laws.{RefusalNumbered, refusal-numbered, IsSolved, solved-means}
 use Rattle.card.specs.declared.Kind.the-variants as kind
-use Rattle.card.specs.Fields.{problemOf, spareOf, xOf, refusalOf, lastSpareOf}
+use Rattle.card.specs.Fields.{problemSize, spareSize, answerAt, problemOf, spareOf, xOf, refusalOf, lastSpareOf}
 use Rattle.card.specs.Made.{numbersBytes, problemBytes, spare, solvedNumbers, solvedBody, refusedBody, cardFor}
 use Rattle.card.proofs.Numbers.{AllFit, length-numbers, word-at, number-at}
 use Rattle.ruling.specs.Said.{numberIn}
@@ -34,26 +34,26 @@ use Rattle.verdict.proofs.Tests.{solved-passes, refused-tests}
 answer-fits : (x : Float) (state : State) → T (fits binary64 x) → StateFits state → AllFit (solvedNumbers x state)
 answer-fits x state w f = (w, (f .0 .0, (f .0 .1, (f .0 .2, (f .1 .0, (f .1 .1, (f .1 .2, tt)))))))
 
--- ---- a body: a problem's 68 bytes, the spare, and the rest
+-- ---- a body: a problem's bytes, the spare, and the rest
 
-module _ (given : List ℕ) (sized : length given ≡ 68) where
-  given-at : (rest : List ℕ) (k at : ℕ) → leb (at + k) 68 ≡ true → valueAt k (given ++ rest) at ≡ valueAt k given at
-  given-at rest k at h = valueAt-front k given rest at (rw sized (leb-true (at + k) 68 h))
+module _ (given : List ℕ) (sized : length given ≡ problemSize) where
+  given-at : (rest : List ℕ) (k at : ℕ) → leb (at + k) problemSize ≡ true → valueAt k (given ++ rest) at ≡ valueAt k given at
+  given-at rest k at h = valueAt-front k given rest at (rw sized (leb-true (at + k) problemSize h))
 
   given-problem : (rest : List ℕ) → problemOf (given ++ rest) ≡ problemOf given
   unfolding problemOf
   given-problem rest = simp (given-at rest)
 
-  behind-given : (rest : List ℕ) (k at : ℕ) → valueAt k (given ++ rest) (68 + at) ≡ valueAt k rest at
+  behind-given : (rest : List ℕ) (k at : ℕ) → valueAt k (given ++ rest) (problemSize + at) ≡ valueAt k rest at
   behind-given rest k at = rw sized at (valueAt-back k given rest at)
 
   spare-is : (rest : List ℕ) → spareOf (given ++ (spare ++ rest)) ≡ 0
-  spare-is rest = behind-given (spare ++ rest) 4 0 ∙ valueAt-bytes 4 0 rest (omega arith)
+  spare-is rest = behind-given (spare ++ rest) spareSize 0 ∙ valueAt-bytes spareSize 0 rest (omega arith)
 
-  behind-spare : (rest : List ℕ) (k at : ℕ) → valueAt k (given ++ (spare ++ rest)) (72 + at) ≡ valueAt k rest at
+  behind-spare : (rest : List ℕ) (k at : ℕ) → valueAt k (given ++ (spare ++ rest)) (answerAt + at) ≡ valueAt k rest at
   behind-spare rest k at =
-      let far : 72 + at ≡ 68 + (4 + at) = omega arith in
-      rw (far, behind-given (spare ++ rest) k (4 + at)) (rw (length-bytes 4 0) at (valueAt-back k spare rest at))
+      let far : answerAt + at ≡ problemSize + (spareSize + at) = omega arith in
+      rw (far, behind-given (spare ++ rest) k (spareSize + at)) (rw (length-bytes spareSize 0) at (valueAt-back k spare rest at))
 
   -- ---- the cards
 
@@ -65,7 +65,7 @@ module _ (given : List ℕ) (sized : length given ≡ 68) where
   -- ---- a solved one
 
   module _ (x : Float) (state : State) (w : AllFit (solvedNumbers x state)) where
-    answer-at : (i : ℕ) → T (ltb i 7) → valueAt 8 (solvedBody given x state) (72 + 8 * i) ≡ wordOf (getD (solvedNumbers x state) i nan)
+    answer-at : (i : ℕ) → T (ltb i 7) → valueAt 8 (solvedBody given x state) (answerAt + 8 * i) ≡ wordOf (getD (solvedNumbers x state) i nan)
     answer-at i h =
         behind-spare (numbersBytes (solvedNumbers x state)) 8 (8 * i)
         ∙ ap (λ (l : List ℕ). valueAt 8 l (8 * i)) (sym (append-nil (numbersBytes (solvedNumbers x state))))
@@ -101,7 +101,7 @@ module _ (given : List ℕ) (sized : length given ≡ 68) where
   unfolding verdictOn
   refused-made k small e =
       let number : refusalOf (refusedBody given k) ≡ k = behind-spare (bytesOf 4 k ++ spare) 4 0 ∙ valueAt-bytes 4 k spare (omega (arith, numbered-is k small .1)) in
-      let last : lastSpareOf (refusedBody given k) ≡ 0 = behind-spare (bytesOf 4 k ++ spare) 4 4 ∙ rw length-bytes at (valueAt-last 4 0 (bytesOf 4 k) (omega arith)) in
+      let last : lastSpareOf (refusedBody given k) ≡ 0 = behind-spare (bytesOf 4 k ++ spare) spareSize 4 ∙ rw length-bytes at (valueAt-last spareSize 0 (bytesOf 4 k) (omega arith)) in
       ap (λ (c : Checked (Unit {0})). numberIn (asRefused c)) (refused-tests (refusedBody given k) .1 (spare-is _, last, rw (given-problem _, number) e))
 
   pub made-passes : numberIn (verdictOn (cardFor given (keplerOf (problemOf given)) .kind) (cardFor given (keplerOf (problemOf given)) .body)) ≡ 0
@@ -112,7 +112,7 @@ module _ (given : List ℕ) (sized : length given ≡ 68) where
       go (conic.refused k n) e = refused-made k (subst RefusalNumbered e (refusal-numbered (problemOf given))) (rw e (is-true (eqb k k) (eqb-refl k)))
       go (conic.refusedWithBracket k n lo hi) e = refused-made k (subst RefusalNumbered e (refusal-numbered (problemOf given))) (rw e (is-true (eqb k k) (eqb-refl k)))
 
--- ---- every problem is some 68 bytes
+-- ---- every problem is some problem's bytes
 
 abbrev numbersIn : Problem → List Float
 numbersIn p = p .mu ∷ p .r .x ∷ p .r .y ∷ p .r .z ∷ p .v .x ∷ p .v .y ∷ p .v .z ∷ p .dt ∷ []
@@ -127,7 +127,7 @@ module _ (p : Problem) (f : ProblemFits p) where
   given-limit : valueAt 4 (problemBytes p) 64 ≡ p .limit
   given-limit = rw length-numbers at (valueAt-last 4 (p .limit) (numbersBytes (numbersIn p)) (f .limit-fits))
 
-  pub given-as-bytes : (length (problemBytes p) ≡ 68) × (problemOf (problemBytes p) ≡ p)
+  pub given-as-bytes : (length (problemBytes p) ≡ problemSize) × (problemOf (problemBytes p) ≡ p)
   unfolding problemOf
   given-as-bytes = (
     simp (length-append, length-bytes, length-numbers),

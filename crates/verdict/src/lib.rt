@@ -21,9 +21,10 @@ use search::Bracket;
 use vectors::Vector;
 ghost use mathlib.Core.Path.{_≡_};
 ghost use Prim.Native.Nat.{_≤_};
-ghost use Rattle.conic.specs.Said as conic;
 ghost use Rattle.rows.specs.Rows.{refusalIn};
+ghost use Rattle.conic.specs.Said as conic;
 ghost use Rattle.entry.specs.Said.{passedStart};
+ghost use Rattle.card.specs.Fields.{velocityAt};
 ghost use Rattle.ruling.specs.Said.{said};
 ghost use Rattle.verdict.specs.Verdict.{sameWords, isRefusedWith, unfoldsTo, atX, solvedCard, refusedCard, asSolved, asRefused, verdictOn};
 
@@ -96,7 +97,7 @@ fn unfolds(body: &[u8], o: Scaled, x: f64, residual: f64) -> Verdict
 
 // Whether the three words of the body from index at on are those of a.
 fn same(body: &[u8], at: usize, a: Vector) -> bool
-    requires { ⌜ at ≤ 104 ⌝ }
+    requires { ⌜ at ≤ velocityAt ⌝ }
     ensures { λ r. ⌜ r ≡ sameWords (now (body .entry)) at a ⌝ }
 {
     (words::word(body, at) == exact::word(a.x))

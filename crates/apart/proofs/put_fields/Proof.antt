@@ -6,7 +6,7 @@ use borrow.Author.Needs.{needs}
 use lib.ListN.{take, drop}
 use lib.Seq.{length-take-le}
 use Rattle.pieces.proofs.Puts.{puts, renamed, wrote}
-use Rattle.card.specs.Fields.{problemSize, answerSize}
+use Rattle.card.specs.Fields.{answerAt, problemSize, answerSize}
 use Rattle.card.proofs.Packed.{answer-inside, packed-most}
 use Rattle.apart.proofs.put_fields.Statement.{statement}
 use Rattle.apart.proofs.put_fields.Tie as tie
@@ -22,8 +22,8 @@ part-put-end c = omega (arith, c .before .packed .ensures, c .before .before .be
 
 returns : tie.Need-returns
 returns c =
-    let answer : 72 + (c .before .before .before .before .before .packed .result - problemSize) - 72 ≡ answerSize (c .before .before .before .before .before .before .before .before .before .before .before .before .before .args .kind) = omega (arith, c .before .before .before .before .before .packed .ensures) in
-    let answer-is = ap (λ (n : ℕ). take n (drop (problemSize + 4) (c .before .before .before .before .before .before .before .before .before .before .before .before .before .args .body .now))) answer in
+    let answer : answerAt + (c .before .before .before .before .before .packed .result - problemSize) - answerAt ≡ answerSize (c .before .before .before .before .before .before .before .before .before .before .before .before .before .args .kind) = omega (arith, c .before .before .before .before .before .packed .ensures) in
+    let answer-is = ap (λ (n : ℕ). take n (drop answerAt (c .before .before .before .before .before .before .before .before .before .before .before .before .before .args .body .now))) answer in
     puts (wrote (c .before .before .before .before .before .before .before .before .put .ensures)) (renamed answer-is (wrote (c .before .before .put2 .ensures)))
 
 pub put-fields-spec : {M : Type 1} → statement M
