@@ -48,8 +48,19 @@ def see_to_room(name: str, out: str) -> None:
         raise Stop(f"write: '{out}' is a directory")
     if not os.path.isdir(folder):
         raise Stop(f"write: there is no folder '{folder}'")
-    if os.path.exists(name) and os.path.isfile(out) and os.path.samefile(name, out):
+    if os.path.isfile(out) and is_given(name, out):
         raise Stop("write: PROBLEMS and OUT are one file, and OUT is replaced; give OUT another name")
+    if os.path.isfile(out) and out.startswith(("/dev/", "/proc/")):
+        raise Stop(f"write: '{out}' is a file that is open already; for standard output give '-' as OUT")
+
+
+def is_given(name: str, out: str) -> bool:
+    """Whether the problems come from the file OUT, by its name or as standard input."""
+    try:
+        given = os.fstat(0) if name == "-" else os.stat(name)
+    except OSError:
+        return False
+    return os.path.samestat(given, os.stat(out))
 
 
 def read_problems(name: str) -> list[bytes]:

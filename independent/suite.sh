@@ -15,7 +15,7 @@ refused 7: 20, refused 11: 20, refused 12: 20, solved: 5000"
 solved 6: 20, solved 7: 20, solved 8: 20, solved 11: 20, solved 20: 20, solved 21: 20, solved 22: 20, \
 solved 23: 20, refused 0: 5000, refused 23: 20, refused 24: 20, deck 30: 20, deck 31: 20, deck 32: 20, \
 deck 33: 20, deck 34: 20, deck 35: 20, deck 36: 20, deck 37: 20, deck 38: 20"
-    "write_deck .problems 500 solved: 3000, refused 1: 100, refused 2: 100, refused 3: 100, refused 5: 50, \
+    "write_deck .problems 500 written: 500, solved: 3000, refused 1: 100, refused 2: 100, refused 3: 100, refused 5: 50, \
 refused 6: 50, refused 7: 50, refused 8: 50, refused 9: 32, refused 10: 50, refused 11: 50, deck 40: 10, \
 deck 46: 100, cards 0: 4, cards 1: 100, cards 2: 4, cards 255: 3, cards 256: 6, cards between: 100"
     "copy_deck .deck 600 same: 500, cleared: 60, deck 30: 8, deck 31: 2, deck 32: 2, deck 33: 2, deck 34: 2, \

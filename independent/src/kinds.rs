@@ -17,7 +17,7 @@ pub fn listed(_: &[u8], listing: &[u8]) -> Vec<String> {
     listing.lines().filter_map(kind).collect()
 }
 
-/// Of what `write_deck` writes: what each card says, and how many there are; or the refusal. The
+/// Of what `write_deck` writes: what each card says, `written` and how many there are; or the refusal. The
 /// reader accepts the deck, and its problems are those given, in order.
 pub fn written(problems: &[u8], answer: &[u8]) -> Vec<String> {
     if let Some(line) = refusal(answer) {
@@ -33,7 +33,8 @@ pub fn written(problems: &[u8], answer: &[u8]) -> Vec<String> {
         Claim::Solved { .. } => "solved".to_string(),
         Claim::Refused { number, .. } => format!("refused {number}"),
     });
-    said.chain([how_many(cards.len())]).collect()
+    said.chain(["written".to_string(), how_many(cards.len())])
+        .collect()
 }
 
 /// Of what `copy_deck` writes: `same` where it is the same bytes, `cleared` where it is the same but

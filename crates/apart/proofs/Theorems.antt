@@ -9,7 +9,7 @@ use Rattle.coincidence.specs.Coincidence.{OneToOne}
 use Rattle.coincidence.proofs.Laws.{undone}
 use Rattle.rows.specs.Rows.{Checked, pass, refuse}
 use Rattle.card.specs.Fields.{Card}
-use Rattle.contents.proofs.Theorems.{reasonOf, reason-is}
+use Rattle.ruling.proofs.Reasons.{reasonOf, reason-is}
 use Rattle.layout.specs.Layout.{deckOf}
 use Rattle.layout.specs.Packed.{kindsOf, fieldsOf, finishedCards}
 use Rattle.layout.proofs.Packed.{as-many, packed-sized, same-fields}

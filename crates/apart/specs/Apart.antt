@@ -7,7 +7,7 @@ use lib.ListN.{length, drop}
 use Rattle.rows.specs.Rows.{Checked, pass, refuse, must, onward}
 use Rattle.card.specs.Fields.{Card}
 use Rattle.contents.specs.Contents.{cardsOf}
-use Rattle.contents.specs.Said.{reasonNumber}
+use Rattle.ruling.specs.Said.{reasonNumber}
 use Rattle.layout.specs.Packed.{fieldsOf}
 use Rattle.apart.specs.declared.Apart.{Apart}
 use Rattle.apart.specs.declared.Apart.the-variants as apart

@@ -5,7 +5,7 @@
 use card::Kind;
 use card::Named;
 use contents::Contents;
-use contents::Reason;
+use ruling::Reason;
 ghost use mathlib.Core.Path.{_≡_};
 ghost use mathlib.Core.List.{List};
 ghost use Prim.Native.Nat.{_≤_};

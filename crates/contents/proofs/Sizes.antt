@@ -35,7 +35,10 @@ few-cards deck cards h =
     let o = opened-to deck cards h in
     (as-many deck (countOf deck) 0 (entryAt (countOf deck)) cards (o .1), o .0 .most)
 
--- and no more bytes than with as many of the largest cards
+-- and no more bytes than with as many of the largest cards: the number of RULES, The deck 7
+pub largest-deck : largestDeck ≡ 35848
+largest-deck = refl
+
 pub largest : (deck : List ℕ) (cards : List Card) → cardsOf deck ≡ pass cards → length deck ≤ largestDeck
 largest deck cards h =
     let o = opened-to deck cards h in

@@ -4,9 +4,10 @@
 // body ended anywhere. The crate assumes nothing.
 use card::Kind;
 use card::Named;
+use ruling::Reason;
 ghost use mathlib.Core.Path.{_≡_};
 ghost use Rattle.card.specs.Said as card;
-ghost use Rattle.contents.specs.Said.{reasonNumber, entered, listed};
+ghost use Rattle.contents.specs.Said.{entered, listed};
 ghost use Rattle.contents.specs.Contents.{entryAt, countOf, kindAt, entryIn, cardsFrom, cardsOf, counting};
 
 // The bytes before the first entry, and those of one.
@@ -20,47 +21,6 @@ pub const VERSION: u32 = 1;
 pub const MOST_CARDS: usize = 256;
 
 pub const LARGEST_DECK: usize = HEADER + MOST_CARDS * (ENTRY + card::BODY);
-
-// Why a deck is refused, or is not written. ListTooShort is of the verdict list, which `deck` is lent;
-// the last three are of the crates that write decks.
-pub enum Reason {
-    TooShort,
-    OtherVersion,
-    TooManyCards,
-    ContentsPastEnd,
-    UnknownKind,
-    WrongLength,
-    WrongOffset,
-    BodyPastEnd,
-    BytesLeftOver,
-    ListTooShort,
-    TooManyGiven,
-    NoRoom,
-    BytesDoNotFit,
-}
-
-impl Reason {
-    // Its number in the rules.
-    pub fn number(self) -> u32
-        ensures { λ r. ⌜ r ≡ reasonNumber self ⌝ }
-    {
-        match self {
-            Reason::TooShort => 30,
-            Reason::OtherVersion => 31,
-            Reason::TooManyCards => 32,
-            Reason::ContentsPastEnd => 33,
-            Reason::UnknownKind => 34,
-            Reason::WrongLength => 35,
-            Reason::WrongOffset => 36,
-            Reason::BodyPastEnd => 37,
-            Reason::BytesLeftOver => 38,
-            Reason::ListTooShort => 39,
-            Reason::TooManyGiven => 40,
-            Reason::NoRoom => 41,
-            Reason::BytesDoNotFit => 46,
-        }
-    }
-}
 
 // What an entry says, where it stands right: its card's kind.
 pub enum Entry {

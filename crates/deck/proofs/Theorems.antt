@@ -4,7 +4,7 @@ use mathlib.Core.Path.{_≡_, refl, ap}
 use Rattle.coincidence.specs.Coincidence.{OneToOne}
 use Rattle.coincidence.proofs.Laws.{undone}
 use Rattle.rows.specs.Rows.{Checked, pass, refuse}
-use Rattle.contents.proofs.Theorems.{reasonOf, reason-is}
+use Rattle.ruling.proofs.Reasons.{reasonOf, reason-is}
 use Rattle.deck.specs.declared.Totals.{Totals}
 use Rattle.deck.specs.declared.Residuals as declared
 use Rattle.deck.specs.declared.Residuals.the-variants as residuals

@@ -1,6 +1,6 @@
 -- What the answers say, in the numbers and values of RULES, The deck. Definitions only.
 use Rattle.rows.specs.Rows.{Checked, pass, refuse}
-use Rattle.contents.specs.Said.{reasonNumber}
+use Rattle.ruling.specs.Said.{reasonNumber}
 use Rattle.deck.specs.declared.Totals.{Totals}
 use Rattle.deck.specs.declared.Residuals as declared
 use Rattle.deck.specs.declared.Residuals.the-variants as residuals

@@ -9,7 +9,7 @@ use contents::Contents;
 use contents::ENTRY;
 use contents::Entry;
 use contents::HEADER;
-use contents::Reason;
+use ruling::Reason;
 use ruling::Verdict;
 ghost use mathlib.Core.Path.{_≡_};
 ghost use Prim.Native.Nat.{_≤_, _<_};

@@ -4,7 +4,7 @@ use Prim.Native.Nat.{ℕ}
 use Rattle.coincidence.specs.Coincidence.{OneToOne}
 use Rattle.coincidence.proofs.Laws.{undone}
 use Rattle.rows.specs.Rows.{Checked, pass, refuse}
-use Rattle.contents.proofs.Theorems.{reasonOf, reason-is}
+use Rattle.ruling.proofs.Reasons.{reasonOf, reason-is}
 use Rattle.layout.specs.declared.Written.{Written}
 use Rattle.layout.specs.declared.Written.the-variants as written
 use Rattle.layout.specs.Written.{said}

@@ -5,7 +5,7 @@
 // writes a deck. Every function here is proved, the public ones are total, and the crate assumes nothing.
 use card::Kind;
 use card::Named;
-use contents::Reason;
+use ruling::Reason;
 ghost use mathlib.Core.Path.{_≡_};
 ghost use Prim.Native.Nat.{_≤_, min};
 ghost use lib.ListN.{length};

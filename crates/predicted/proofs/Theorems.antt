@@ -5,7 +5,7 @@ use Rattle.coincidence.specs.Coincidence.{OneToOne}
 use Rattle.coincidence.proofs.Laws.{undone}
 use Rattle.rows.specs.Rows.{Checked, pass, refuse}
 use Rattle.card.specs.declared.Kind.{Kind}
-use Rattle.contents.proofs.Theorems.{reasonOf, reason-is}
+use Rattle.ruling.proofs.Reasons.{reasonOf, reason-is}
 use Rattle.predicted.specs.declared.Placed.{Placed}
 use Rattle.predicted.specs.declared.Placed.the-variants as place
 use Rattle.predicted.specs.Predicted.{said}

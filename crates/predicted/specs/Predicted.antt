@@ -12,7 +12,7 @@ use Rattle.card.specs.declared.Kind.{Kind}
 use Rattle.card.specs.Fields as card
 use Rattle.card.specs.Fields.{problemSize, problemOf}
 use Rattle.card.specs.Made.{answerFor, cardFor}
-use Rattle.contents.specs.Said.{reasonNumber}
+use Rattle.ruling.specs.Said.{reasonNumber}
 use Rattle.predicted.specs.declared.Card.{Card}
 use Rattle.predicted.specs.declared.Placed.{Placed}
 use Rattle.predicted.specs.declared.Placed.the-variants as place

@@ -6,7 +6,7 @@ use card::Kind;
 use conic::Outcome;
 use conic::Problem;
 use conic::State;
-use contents::Reason;
+use ruling::Reason;
 ghost use mathlib.Core.Path.{_≡_};
 ghost use Prim.Native.Nat.{_≤_};
 ghost use lib.ListN.{length};

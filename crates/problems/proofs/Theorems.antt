@@ -98,7 +98,10 @@ always-written n problems room h few roomy =
     let fits : length (deckOf (cardsFor n problems)) ≤ room = omega (arith, deck-most (cardsFor n problems) (omega (arith, as-many n problems, few)) (all-sized n problems (omega (arith, h))), roomy) in
     rw (is, le-leb (length (deckOf (cardsFor n problems))) room fits) refl
 
--- what the program reads is enough: as many bytes, and any behind them, are refused with 40
+-- what the program reads, the number of RULES, Writing a deck 7, is enough: as many bytes, and any behind them, are refused with 40
+pub read-of-problems : readOfProblems ≡ 17476
+read-of-problems = refl
+
 pub read-is-enough : (read behind : List ℕ) → length read ≡ readOfProblems → problemCards (read ++ behind) ≡ problemCards read
 read-is-enough read behind h =
     let longer = length-append read behind in

@@ -3,9 +3,9 @@
 //
 // Every function here is proved, `write` is total, and the crate assumes nothing.
 use card::Kind;
-use contents::Reason;
 use layout::Written;
 use predicted::Placed;
+use ruling::Reason;
 ghost use mathlib.Core.Path.{_≡_};
 ghost use Prim.Native.Nat.{_/_, _≤_};
 ghost use lib.ListN.{length};

@@ -16,7 +16,6 @@ use Rattle.exact.proofs.Basics.{passed, failed}
 use Rattle.exact.proofs.Steps.{same-number}
 use Rattle.exact.proofs.Order.{plus-lt, above-alone, equal-alone, lt-of-neither}
 use Rattle.exact.proofs.Zero.{nought-number, positive-is}
-use Rattle.root.specs.declared.Answer.{Answer}
 use Rattle.root.specs.declared.Answer.the-variants.{Root, Refused}
 use Rattle.root.specs.declared.Reason.{Reason}
 use Rattle.root.specs.declared.Reason.the-variants.{NotFinite, BelowZero}

@@ -1,2 +1,3 @@
+pub mod Reasons
 pub mod Theorems
 pub mod Fixed

@@ -1,8 +1,10 @@
--- What a verdict says, in the numbers and values of RULES, Verdicts. Definitions only.
+-- What is ruled of a card and of a deck, in the numbers and values of RULES, Verdicts, The deck and Writing a deck. Definitions only.
 use Prim.Native.Nat.{ℕ}
 use lib.Ieee.{Float}
 use Rattle.ruling.specs.declared.Fault.{Fault}
 use Rattle.ruling.specs.declared.Fault.the-variants as fault
+use Rattle.ruling.specs.declared.Reason.{Reason}
+use Rattle.ruling.specs.declared.Reason.the-variants as why
 use Rattle.ruling.specs.declared.Verdict.{Verdict}
 use Rattle.ruling.specs.declared.Verdict.the-variants as verdict
 
@@ -30,3 +32,19 @@ abbrev pub numberIn : Said → ℕ
 numberIn (solved residual) = 0
 numberIn refused = 0
 numberIn (rejected k) = k
+
+-- the number that the tables of refused decks give to each reason
+abbrev pub reasonNumber : Reason → ℕ
+reasonNumber why.TooShort = 30
+reasonNumber why.OtherVersion = 31
+reasonNumber why.TooManyCards = 32
+reasonNumber why.ContentsPastEnd = 33
+reasonNumber why.UnknownKind = 34
+reasonNumber why.WrongLength = 35
+reasonNumber why.WrongOffset = 36
+reasonNumber why.BodyPastEnd = 37
+reasonNumber why.BytesLeftOver = 38
+reasonNumber why.ListTooShort = 39
+reasonNumber why.TooManyGiven = 40
+reasonNumber why.NoRoom = 41
+reasonNumber why.BytesDoNotFit = 46

@@ -1,8 +1,9 @@
-// What can be ruled of a card, and the numbers of the rules for it. docs/RULES.md, Verdicts.
+// What can be ruled of a card and of a deck, and the numbers of the rules for it. docs/RULES.md, Verdicts,
+// The deck and Writing a deck.
 //
 // Every function here is proved and total, and the crate assumes nothing.
 ghost use mathlib.Core.Path.{_≡_};
-ghost use Rattle.ruling.specs.Said.{faultNumber, said, numberIn};
+ghost use Rattle.ruling.specs.Said.{faultNumber, reasonNumber, said, numberIn};
 
 // Why a card is rejected, besides the reasons for which a prediction is refused.
 pub enum Fault {
@@ -44,6 +45,47 @@ impl Verdict {
             Verdict::Solved(_) => 0,
             Verdict::Refused => 0,
             Verdict::Rejected(number) => number,
+        }
+    }
+}
+
+// Why a deck is refused, or is not written. ListTooShort is of the verdict list, which `deck` is lent;
+// the last three are of the crates that write decks.
+pub enum Reason {
+    TooShort,
+    OtherVersion,
+    TooManyCards,
+    ContentsPastEnd,
+    UnknownKind,
+    WrongLength,
+    WrongOffset,
+    BodyPastEnd,
+    BytesLeftOver,
+    ListTooShort,
+    TooManyGiven,
+    NoRoom,
+    BytesDoNotFit,
+}
+
+impl Reason {
+    // Its number in the rules.
+    pub fn number(self) -> u32
+        ensures { λ r. ⌜ r ≡ reasonNumber self ⌝ }
+    {
+        match self {
+            Reason::TooShort => 30,
+            Reason::OtherVersion => 31,
+            Reason::TooManyCards => 32,
+            Reason::ContentsPastEnd => 33,
+            Reason::UnknownKind => 34,
+            Reason::WrongLength => 35,
+            Reason::WrongOffset => 36,
+            Reason::BodyPastEnd => 37,
+            Reason::BytesLeftOver => 38,
+            Reason::ListTooShort => 39,
+            Reason::TooManyGiven => 40,
+            Reason::NoRoom => 41,
+            Reason::BytesDoNotFit => 46,
         }
     }
 }

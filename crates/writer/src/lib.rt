@@ -3,8 +3,8 @@
 // Nothing is computed from a card's fields. Every function here is proved, `write` is total, and the
 // crate assumes nothing.
 use card::Named;
-use contents::Reason;
 use layout::Written;
+use ruling::Reason;
 ghost use mathlib.Core.Path.{_≡_};
 ghost use mathlib.Core.List.{List};
 ghost use Prim.Native.Nat.{_≤_};

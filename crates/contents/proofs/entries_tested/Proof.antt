@@ -5,7 +5,8 @@ use native.Mathlib.Omega.{arith}
 use borrow.Author.Needs.{needs}
 use lib.ListN.{length}
 use Rattle.rows.specs.Rows.{pass}
-use Rattle.contents.specs.Said.{reasonNumber, entered}
+use Rattle.ruling.specs.Said.{reasonNumber}
+use Rattle.contents.specs.Said.{entered}
 use Rattle.contents.specs.Contents.{entryIn}
 use Rattle.contents.proofs.Cards.{entry-inside}
 use Rattle.contents.proofs.Walking.{Walking, set-out, entry-refused, walk-on, left-over, all-read}

@@ -1,6 +1,7 @@
 -- `deck::check` meets its contract: the contents' refusal, 39, or the verdicts and the tally; where it refuses, the list is as it was lent.
 use mathlib.Core.Path.{sym, ap, _∙_}
-use Rattle.contents.specs.Said.{reasonNumber, listed}
+use Rattle.ruling.specs.Said.{reasonNumber}
+use Rattle.contents.specs.Said.{listed}
 use Rattle.contents.proofs.Opened.{Opened, opened}
 use Rattle.deck.proofs.Settled.{contents-refused, list-too-short, accepted}
 use borrow.Author.Needs.{needs}

@@ -6,7 +6,8 @@ use native.Mathlib.Omega.{arith}
 use borrow.Author.Needs.{needs}
 use lib.ListN.{length}
 use Rattle.rows.specs.Rows.{pass}
-use Rattle.contents.specs.Said.{reasonNumber, entered}
+use Rattle.ruling.specs.Said.{reasonNumber}
+use Rattle.contents.specs.Said.{entered}
 use Rattle.contents.specs.Contents.{entryAt, entryIn}
 use Rattle.contents.proofs.Cards.{entry-inside}
 use Rattle.ruling.specs.Said.{said}

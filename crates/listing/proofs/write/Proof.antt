@@ -10,7 +10,7 @@ use Rattle.pieces.specs.Pieces.{joined}
 use Rattle.pieces.proofs.Puts.{puts, last, renamed, wrote}
 use Rattle.rows.specs.Rows.{refuse}
 use Rattle.contents.specs.Contents.{mostCards, cardsOf}
-use Rattle.contents.specs.Said.{reasonNumber}
+use Rattle.ruling.specs.Said.{reasonNumber}
 use Rattle.deck.specs.declared.Totals.{Totals}
 use Rattle.deck.specs.Tally.{Residuals}
 use Rattle.deck.specs.Said.{told, said}
