@@ -10,8 +10,10 @@ use lib.Ieee.{Float, nan, binary64, fits}
 use lib.Ieee.Fits.{nan-fits}
 use lib.Ieee.Bits.{ofBits-toBits, toBits-lt}
 use Rattle.exact.specs.Numbers.{numberOf, wordOf}
-use Rattle.words.specs.Words.{valueAt, bytesOf, wordsBytes}
-use Rattle.words.proofs.Written.{length-bytes, valueAt-back, valueAt-bytes}
+use Rattle.spelled.specs.Spelled.{bytesOf}
+use Rattle.words.specs.Words.{valueAt, wordsBytes}
+use Rattle.spelled.proofs.Length.{length-bytes}
+use Rattle.words.proofs.Written.{valueAt-back, valueAt-bytes}
 use Rattle.card.specs.Made.{numbersBytes}
 
 abbrev pub AllFit : List Float → Type 0

@@ -7,8 +7,8 @@ use native.Mathlib.Omega.{arith}
 use borrow.Author.Tests.{eq-eqb, le-leb}
 use lib.ListN.{length, take, drop, length-append, length-drop, length-map}
 use lib.Seq.{take-at}
-use Rattle.words.specs.Words.{bytesOf}
-use Rattle.words.proofs.Written.{length-bytes}
+use Rattle.spelled.specs.Spelled.{bytesOf}
+use Rattle.spelled.proofs.Length.{length-bytes}
 use Rattle.words.proofs.Standing.{past, read-there}
 use Rattle.rows.specs.Rows.{pass, must, onward}
 use Rattle.card.specs.declared.Kind.{Kind}

@@ -4,7 +4,7 @@ use mathlib.Core.List.{List, [], _∷_}
 use Prim.Native.Nat.{ℕ, _+_, _*_, _≤_}
 use native.Mathlib.Omega.{arith}
 use lib.ListN.{length, length-append, length-map}
-use Rattle.words.proofs.Written.{length-bytes}
+use Rattle.spelled.proofs.Length.{length-bytes}
 use Rattle.card.specs.declared.Kind.{Kind}
 use Rattle.card.specs.Fields.{Card, sizeOf, largestBody, largestFields}
 use Rattle.card.specs.Made.{fieldsIn}

@@ -4,7 +4,8 @@ use mathlib.Core.List.{List, _++_, append-assoc, append-nil}
 use Prim.Native.Nat.{ℕ, _+_, _≤_}
 use native.Mathlib.Omega.{arith}
 use lib.ListN.{length, drop, drop-of-length-le}
-use Rattle.words.specs.Words.{valueAt, bytesOf, wordsBytes}
+use Rattle.spelled.specs.Spelled.{bytesOf}
+use Rattle.words.specs.Words.{valueAt, wordsBytes}
 use Rattle.words.proofs.Written.{Bytes}
 use Rattle.words.proofs.Standing.{number-stands}
 use Rattle.card.specs.Fields.{problemSize, problemOf}

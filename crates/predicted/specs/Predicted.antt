@@ -4,7 +4,8 @@ use mathlib.Core.List.{List, [], _∷_, _++_}
 use lib.Dec.{leb}
 use lib.ListN.{length, take}
 use Rattle.pieces.specs.Pieces.{putIn, endIn}
-use Rattle.words.specs.Words.{valueAt, bytesOf, wordsBytes}
+use Rattle.spelled.specs.Spelled.{bytesOf}
+use Rattle.words.specs.Words.{valueAt, wordsBytes}
 use Rattle.rows.specs.Rows.{Checked, pass, refuse, must, onward}
 use Rattle.conic.specs.Said as conic
 use Rattle.kepler.specs.Kepler.{keplerOf}

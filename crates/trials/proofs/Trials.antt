@@ -12,7 +12,8 @@ use Rattle.conic.specs.TimeAndRatio.{timeAt}
 use Rattle.conic.specs.Unfolding.{unfolded, arrivalOf, arrivalAt}
 use Rattle.entry.specs.Entry.{inputsTested, rooted, radiusOf, unitOf, testedBy, scaledBy, scaledOf, farEndOf, bracketedBy, startOf, entryOf}
 use Rattle.kepler.specs.Kepler.{arrivedAt, foundIn, keplerOf}
-use Rattle.words.specs.Words.{value, valueAt, bytesOf, wordsBytes}
+use Rattle.spelled.specs.Spelled.{bytesOf}
+use Rattle.words.specs.Words.{value, valueAt, wordsBytes}
 use Rattle.text.specs.Text.{decimal, hex}
 use Rattle.card.specs.Fields.{kindOf, kindNumber, sizeOf, problemOf}
 use Rattle.contents.specs.Contents.{entryIn, cardsFrom, cardsOf}

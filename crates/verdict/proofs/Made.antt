@@ -11,8 +11,10 @@ use lib.ListN.{length, getD, length-append}
 use lib.Ieee.{Float, nan, binary64, fits}
 use lib.Ieee.Bits.{is-true, ofBits-toBits}
 use Rattle.exact.specs.Numbers.{numberOf, wordOf}
-use Rattle.words.specs.Words.{valueAt, bytesOf}
-use Rattle.words.proofs.Written.{length-bytes, valueAt-front, valueAt-back, valueAt-bytes, valueAt-last}
+use Rattle.spelled.specs.Spelled.{bytesOf}
+use Rattle.words.specs.Words.{valueAt}
+use Rattle.spelled.proofs.Length.{length-bytes}
+use Rattle.words.proofs.Written.{valueAt-front, valueAt-back, valueAt-bytes, valueAt-last}
 use Rattle.conic.specs.declared.State.{State}
 use Rattle.conic.specs.declared.Problem.{Problem}
 use Rattle.rows.specs.Rows.{Checked}

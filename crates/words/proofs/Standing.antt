@@ -6,9 +6,11 @@ use Prim.Native.Nat.{ℕ, zero, suc, _+_, _-_, _^_, _≤_, _<_}
 use native.Mathlib.Omega.{arith}
 use lib.ListN.{length, take, drop, take-append-drop, length-append, length-drop}
 use lib.Seq.{drop-drop, drop-append-seam}
-use Rattle.words.specs.Words.{value, valueAt, bytesOf}
+use Rattle.spelled.specs.Spelled.{bytesOf}
+use Rattle.words.specs.Words.{value, valueAt}
 use Rattle.words.proofs.Value.{valueAt-inside}
-use Rattle.words.proofs.Written.{length-bytes, value-bytes, Bytes, bytes-valueAt}
+use Rattle.spelled.proofs.Length.{length-bytes}
+use Rattle.words.proofs.Written.{value-bytes, Bytes, bytes-valueAt}
 
 -- from `at` on stand the first n bytes there, then the others
 pub stands : (l : List ℕ) (at n : ℕ) → drop at l ≡ take n (drop at l) ++ drop (at + n) l

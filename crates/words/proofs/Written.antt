@@ -10,13 +10,10 @@ use borrow.Author.Tests.{leb-true, leb-false}
 use lib.Dec.{leb}
 use lib.ListN.{length, take, drop, getD, length-append, length-drop}
 use lib.Seq.{take-append-le, drop-append-le, drop-append-add, getD-drop}
-use Rattle.words.specs.Words.{value, valueAt, bytesOf}
+use Rattle.spelled.specs.Spelled.{bytesOf}
+use Rattle.spelled.proofs.Length.{length-bytes}
+use Rattle.words.specs.Words.{value, valueAt}
 use Rattle.words.proofs.Value.{valueAt-inside, valueAt-outside, valueAt-same}
-
-pub length-bytes : (k n : ℕ) → length (bytesOf k n) ≡ k
-unfolding bytesOf
-length-bytes zero n = refl
-length-bytes (suc k) n = ap suc (length-bytes k (n / 256))
 
 pub value-bytes : (k n : ℕ) (rest : List ℕ) → n < 256 ^ k → value k (bytesOf k n ++ rest) ≡ n
 unfolding value bytesOf

@@ -1,9 +1,10 @@
 -- Little-endian numbers in bytes: RULES, The deck. Definitions only.
-use Prim.Native.Nat.{ℕ, zero, suc, _+_, _*_, _/_, _%_}
+use Prim.Native.Nat.{ℕ, zero, suc, _+_, _*_}
 use mathlib.Core.Bool.{cond}
 use mathlib.Core.List.{List, [], _∷_, _++_}
 use lib.Dec.{leb}
 use lib.ListN.{length, drop}
+use Rattle.spelled.specs.Spelled.{bytesOf}
 
 -- the value of the first k bytes, the lowest first
 unfoldable pub value : (k : ℕ) → List ℕ → ℕ
@@ -14,11 +15,6 @@ value (suc k) (b ∷ bytes) = b + 256 * value k bytes
 -- the value of the k bytes from index `at` on; 0 where the list ends before
 unfoldable pub valueAt : (k : ℕ) → List ℕ → (at : ℕ) → ℕ
 valueAt k bytes at = cond (leb (at + k) (length bytes)) (value k (drop at bytes)) 0
-
--- the k lowest bytes of n, the lowest first
-unfoldable pub bytesOf : (k n : ℕ) → List ℕ
-bytesOf zero n = []
-bytesOf (suc k) n = n % 256 ∷ bytesOf k (n / 256)
 
 -- words of eight bytes, one behind the other
 unfoldable pub wordsBytes : List ℕ → List ℕ

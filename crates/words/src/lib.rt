@@ -4,9 +4,9 @@
 ghost use mathlib.Core.Path.{_≡_};
 ghost use Prim.Native.Nat.{_+_, _^_, _≤_, _<_};
 ghost use lib.ListN.{length, drop};
-ghost use lib.Seq.{sets};
-ghost use Rattle.pieces.specs.Pieces.{putIn, endIn, Put};
-ghost use Rattle.words.specs.Words.{value, valueAt, bytesOf};
+ghost use Rattle.pieces.specs.Pieces.{putIn, endIn};
+ghost use Rattle.spelled.specs.Spelled.{bytesOf};
+ghost use Rattle.words.specs.Words.{value, valueAt};
 
 // The eight bytes of s from index at on as a word, the lowest first; 0 where s ends before.
 pub fn word(s: &[u8], at: usize) -> u64
@@ -58,7 +58,7 @@ pub fn put_word(out: &mut [u8], at: usize, w: u64) -> usize
     ensures { λ r. ⌜ r ≡ endIn (now (out .entry)) at (bytesOf 8 w) ⌝ }
     ensures { λ r. ⌜ now (out .exit) ≡ putIn (now (out .entry)) at (bytesOf 8 w) ⌝ }
 {
-    put_part(out, at, w, 8)
+    spelled::put(out, at, w, 8)
 }
 
 // The same for the four bytes of w.
@@ -66,44 +66,5 @@ pub fn put_half(out: &mut [u8], at: usize, w: u32) -> usize
     ensures { λ r. ⌜ r ≡ endIn (now (out .entry)) at (bytesOf 4 w) ⌝ }
     ensures { λ r. ⌜ now (out .exit) ≡ putIn (now (out .entry)) at (bytesOf 4 w) ⌝ }
 {
-    put_part(out, at, w as u64, 4)
-}
-
-// The k lowest bytes of w, at once where there is room for all of them.
-fn put_part(out: &mut [u8], at: usize, w: u64, k: usize) -> usize
-    requires { ⌜ k ≤ 8 ⌝ }
-    ensures { λ r. ⌜ Put (now (out .entry)) at (bytesOf k w) (now (out .exit)) r ⌝ }
-{
-    if out.len() < k {
-        return put_few(out, at, w, k);
-    }
-    if out.len() - k < at {
-        return put_few(out, at, w, k);
-    }
-    spell(out, at, w, k);
-    at + k
-}
-
-// As many of them as there is room for.
-fn put_few(out: &mut [u8], at: usize, w: u64, k: usize) -> usize
-    requires { ⌜ k ≤ 8 ⌝ }
-    ensures { λ r. ⌜ Put (now (out .entry)) at (bytesOf k w) (now (out .exit)) r ⌝ }
-{
-    let mut bytes = [0u8; 8];
-    spell(&mut bytes, 0, w, k);
-    pieces::put(out, at, &bytes[..k])
-}
-
-// The k lowest bytes of w, from the lowest one up.
-fn spell(out: &mut [u8], at: usize, w: u64, k: usize)
-    requires { ⌜ at + k ≤ length (now out) ⌝ }
-    ensures { λ _. ⌜ now (out .exit) ≡ sets (now (out .entry)) at (bytesOf k w) ⌝ }
-{
-    let mut rest = w;
-    let mut i = 0;
-    while i < k {
-        out[at + i] = (rest % 256) as u8;
-        rest /= 256;
-        i += 1;
-    }
+    spelled::put(out, at, w as u64, 4)
 }

@@ -3,7 +3,7 @@ use mathlib.Core.Path.{ap}
 use native.Mathlib.Omega.{arith}
 use borrow.Author.Needs.{needs}
 use Rattle.pieces.proofs.Puts.{puts, renamed, wrote}
-use Rattle.words.specs.Words.{bytesOf}
+use Rattle.spelled.specs.Spelled.{bytesOf}
 use Rattle.card.proofs.Sizes.{size-most}
 use Rattle.layout.proofs.put_entry.Statement.{statement}
 use Rattle.layout.proofs.put_entry.Tie as tie

@@ -3,7 +3,8 @@ use mathlib.Core.Path.{ap, ap₂, _∙_}
 use mathlib.Core.List.{_++_}
 use native.Mathlib.Omega.{arith}
 use borrow.Author.Needs.{needs}
-use Rattle.words.specs.Words.{bytesOf, wordsBytes}
+use Rattle.spelled.specs.Spelled.{bytesOf}
+use Rattle.words.specs.Words.{wordsBytes}
 use Rattle.conic.specs.declared.Problem.{Problem}
 use Rattle.kepler.specs.Kepler.{keplerOf}
 use Rattle.predicted.proofs.Given.{given-kept}

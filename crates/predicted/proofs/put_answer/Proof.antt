@@ -2,7 +2,7 @@
 use mathlib.Core.Path.{ap}
 use borrow.Author.Needs.{needs}
 use Rattle.pieces.proofs.Puts.{renamed, wrote}
-use Rattle.words.specs.Words.{bytesOf}
+use Rattle.spelled.specs.Spelled.{bytesOf}
 use Rattle.predicted.proofs.put_answer.Statement.{statement}
 use Rattle.predicted.proofs.put_answer.Tie as tie
 

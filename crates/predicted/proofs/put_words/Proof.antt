@@ -9,7 +9,8 @@ use lib.ListN.{length, drop, getD, drop-of-length-le}
 use lib.Seq.{drop-cons}
 use Rattle.pieces.proofs.Puts.{wrote}
 use Rattle.pieces.proofs.InPieces.{InPieces, nothing-yet, one-on, all-there}
-use Rattle.words.specs.Words.{bytesOf, wordsBytes}
+use Rattle.spelled.specs.Spelled.{bytesOf}
+use Rattle.words.specs.Words.{wordsBytes}
 use Rattle.predicted.proofs.put_words.Statement.{statement}
 use Rattle.predicted.proofs.put_words.Tie as tie
 

@@ -1,4 +1,4 @@
--- `words::put_part` meets its contract: where there is room for all bytes they are written at once.
+-- `spelled::put_part` meets its contract: where there is room for all bytes they are written at once.
 use mathlib.Core.Path.{_≡_}
 use mathlib.Core.List.{List}
 use Prim.Native.Nat.{ℕ, _+_, _≤_}
@@ -8,10 +8,10 @@ use lib.ListN.{length}
 use lib.Seq.{sets}
 use Rattle.pieces.specs.Pieces.{Put}
 use Rattle.pieces.proofs.Puts.{at-once}
-use Rattle.words.specs.Words.{bytesOf}
-use Rattle.words.proofs.Written.{length-bytes}
-use Rattle.words.proofs.put_part.Statement.{statement}
-use Rattle.words.proofs.put_part.Tie as tie
+use Rattle.spelled.specs.Spelled.{bytesOf}
+use Rattle.spelled.proofs.Length.{length-bytes}
+use Rattle.spelled.proofs.put_part.Statement.{statement}
+use Rattle.spelled.proofs.put_part.Tie as tie
 
 whole : (out : List ℕ) (at w k : ℕ) {after : List ℕ} → at + k ≤ length out → after ≡ sets out at (bytesOf k w) → Put out at (bytesOf k w) after (at + k)
 whole out at w k {after} h e =

@@ -1,13 +1,13 @@
--- `words::spell` meets its contract. The invariant: what stands, with the bytes of the rest behind it, is the buffer with all bytes in it.
+-- `spelled::spell` meets its contract. The invariant: what stands, with the bytes of the rest behind it, is the buffer with all bytes in it.
 use mathlib.Core.Path.{_≡_, refl, sym, ap, _∙_}
 use mathlib.Core.List.{List, [], _∷_}
 use Prim.Native.Nat.{ℕ, suc, _+_, _-_, _/_, _%_, _≤_, _<_}
 use native.Mathlib.Omega.{arith}
 use lib.ListN.{length, set, length-set}
 use lib.Seq.{sets}
-use Rattle.words.specs.Words.{bytesOf}
-use Rattle.words.proofs.spell.Statement.{statement}
-use Rattle.words.proofs.spell.Tie as tie
+use Rattle.spelled.specs.Spelled.{bytesOf}
+use Rattle.spelled.proofs.spell.Statement.{statement}
+use Rattle.spelled.proofs.spell.Tie as tie
 
 record Spelt (out₀ : List ℕ) (at w k : ℕ) (out : List ℕ) (rest i : ℕ) : Type 0 where
   few : i ≤ k

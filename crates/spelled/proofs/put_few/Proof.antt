@@ -1,4 +1,4 @@
--- `words::put_few` meets its contract: the front of the eight bytes is the piece.
+-- `spelled::put_few` meets its contract: the front of the eight bytes is the piece.
 use mathlib.Core.Path.{_≡_, sym, ap, _∙_}
 use mathlib.Core.List.{List}
 use Prim.Native.Nat.{ℕ, _+_, _≤_}
@@ -8,10 +8,10 @@ use borrow.Author.Needs.{needs}
 use lib.ListN.{length, take, replicate}
 use lib.Seq.{sets, length-sets, length-take-le}
 use Rattle.pieces.proofs.Puts.{at-once, front, renamed, wrote}
-use Rattle.words.specs.Words.{bytesOf}
-use Rattle.words.proofs.Written.{length-bytes}
-use Rattle.words.proofs.put_few.Statement.{statement}
-use Rattle.words.proofs.put_few.Tie as tie
+use Rattle.spelled.specs.Spelled.{bytesOf}
+use Rattle.spelled.proofs.Length.{length-bytes}
+use Rattle.spelled.proofs.put_few.Statement.{statement}
+use Rattle.spelled.proofs.put_few.Tie as tie
 
 spelt : (k w : ℕ) {bytes : List ℕ} → k ≤ 8 → bytes ≡ sets (replicate 8 0) 0 (bytesOf k w) → (k ≡ length (take k bytes)) × (take k bytes ≡ bytesOf k w)
 spelt k w {bytes} h e =
