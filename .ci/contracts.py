@@ -4,7 +4,7 @@ For .ci/statements. It reads text that `rt fmt` has laid out, and what it can't 
 import re
 
 # the operators that a contract may bring in (a name with _ is one), and names that have to be the library's
-LIBRARY = {"_≡_": "mathlib.Core.Path", "length": "lib.ListN"} | {f"_{o}_": "Prim.Native.Nat" for o in "+-*/%^≤<"}
+LIBRARY = {"_≡_": "mathlib.Core.Path", "length": "lib.ListN", "min": "Prim.Native.Nat"} | {f"_{o}_": "Prim.Native.Nat" for o in "+-*/%^≤<"}
 WORD = r"[\w·'⁺-]+(?:\.[\w·'-]+)*"
 
 

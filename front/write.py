@@ -50,17 +50,18 @@ def see_to_room(name: str, out: str) -> None:
         raise Stop(f"write: there is no folder '{folder}'")
     if os.path.isfile(out) and is_given(name, out):
         raise Stop("write: PROBLEMS and OUT are one file, and OUT is replaced; give OUT another name")
-    if os.path.isfile(out) and out.startswith(("/dev/", "/proc/")):
-        raise Stop(f"write: '{out}' is a file that is open already; for standard output give '-' as OUT")
+    if os.path.isfile(out) and any(is_open(descriptor, out) for descriptor in (1, 2)):
+        raise Stop(f"write: '{out}' is where standard output or error goes; give OUT another name, or '-' for standard output")
 
 
 def is_given(name: str, out: str) -> bool:
     """Whether the problems come from the file OUT, by its name or as standard input."""
-    try:
-        given = os.fstat(0) if name == "-" else os.stat(name)
-    except OSError:
-        return False
-    return os.path.samestat(given, os.stat(out))
+    return is_open(0, out) if name == "-" else os.path.exists(name) and os.path.samefile(name, out)
+
+
+def is_open(descriptor: int, out: str) -> bool:
+    """Whether a descriptor leads to the file OUT."""
+    return os.path.samestat(os.fstat(descriptor), os.stat(out))
 
 
 def read_problems(name: str) -> list[bytes]:

@@ -1,5 +1,5 @@
 -- Kepler's own answers pass: the card that a problem's bytes and Kepler's answer to it make has the problem in it, the zeros and the answer's
--- numbers, so each test of the verdict finds what Kepler found. Any problem is some 68 bytes.
+-- numbers, so each test of the verdict finds what Kepler found. Any problem can be written as bytes.
 use mathlib.Core.Path.{_≡_, refl, sym, ap, _∙_, subst}
 use mathlib.Core.Bool.{true}
 use mathlib.Core.List.{List, [], _∷_, _++_, append-nil}
@@ -114,7 +114,7 @@ module _ (given : List ℕ) (sized : length given ≡ problemSize) where
       go (conic.refused k n) e = refused-made k (subst RefusalNumbered e (refusal-numbered (problemOf given))) (rw e (is-true (eqb k k) (eqb-refl k)))
       go (conic.refusedWithBracket k n lo hi) e = refused-made k (subst RefusalNumbered e (refusal-numbered (problemOf given))) (rw e (is-true (eqb k k) (eqb-refl k)))
 
--- ---- every problem is some problem's bytes
+-- ---- every problem can be written as bytes
 
 abbrev numbersIn : Problem → List Float
 numbersIn p = p .mu ∷ p .r .x ∷ p .r .y ∷ p .r .z ∷ p .v .x ∷ p .v .y ∷ p .v .z ∷ p .dt ∷ []

@@ -6,11 +6,10 @@ use native.Mathlib.Omega.{arith}
 use borrow.Author.Needs.{needs}
 use lib.ListN.{length}
 use Rattle.rows.specs.Rows.{pass}
-use Rattle.ruling.specs.Said.{reasonNumber}
 use Rattle.contents.specs.Said.{entered}
 use Rattle.contents.specs.Contents.{entryAt, entryIn}
 use Rattle.contents.proofs.Cards.{entry-inside}
-use Rattle.ruling.specs.Said.{said}
+use Rattle.ruling.specs.Said.{reasonNumber, said}
 use Rattle.deck.specs.declared.tally.Running.{Running}
 use Rattle.deck.proofs.Going.{Going, some-left, start, never-refused, turn, answer-is, list-is}
 use Rattle.deck.proofs.judged.Statement.{statement}
