@@ -35,7 +35,7 @@ few-cards deck cards h =
     let o = opened-to deck cards h in
     (as-many deck (countOf deck) 0 (entryAt (countOf deck)) cards (o .1), o .0 .most)
 
--- and no more bytes than with as many of the largest cards: the number of RULES, The deck 7
+-- and no more bytes than with as many of the largest cards: the number of RULES, The deck 8
 pub largest-deck : largestDeck ≡ 35848
 largest-deck = refl
 

@@ -37,7 +37,7 @@ tallied m = onward m (λ verdicts. pass (tallyOf verdicts))
 unfoldable pub answerOf : List ℕ → (room : ℕ) → Checked (Totals × Residuals)
 answerOf deck room = tallied (judgedOf deck room)
 
--- The deck 8: the verdicts go into the first places, and the places behind keep their values. A refused deck leaves the list as it was lent.
+-- The deck 9: the verdicts go into the first places, and the places behind keep their values. A refused deck leaves the list as it was lent.
 abbrev pub written : Checked (List Said) → List ℕ → List ℕ
 written (pass verdicts) list = map numberIn verdicts ++ drop (length verdicts) list
 written (refuse k) list = list

@@ -6,12 +6,12 @@ use Rattle.text.specs.Text.{text}
 use Rattle.line.specs.declared.Question.{Question}
 use Rattle.line.specs.Line.{widthOf, lineOf, mostWidth, mostLine}
 
--- Lines 4: what is left behind the last whole record: nothing, or a record that is cut off
+-- Lines 5: what is left behind the last whole record: nothing, or a record that is cut off
 abbrev pub leftOver : List ℕ → List ℕ
 leftOver [] = []
 leftOver (b ∷ bytes) = text "short\n"
 
--- Lines 4: a line for each of n records, then what is left
+-- Lines 5: a line for each of n records, then what is left
 unfoldable pub linesFrom : Question → (n : ℕ) → List ℕ → List ℕ
 linesFrom asked zero bytes = leftOver bytes
 linesFrom asked (suc n) bytes = lineOf asked (take (widthOf asked) bytes) ++ linesFrom asked n (drop (widthOf asked) bytes)
