@@ -6,6 +6,7 @@ use native.Mathlib.Omega.{arith}
 use lib.ListN.{length, take, drop, length-append, length-drop, take-append-drop}
 use lib.Seq.{length-take-le, take-all, take-at, drop-at, drop-drop}
 use Rattle.spelled.proofs.Length.{length-bytes}
+use Rattle.search.specs.Answers as answer
 use Rattle.conic.specs.Said as conic
 use Rattle.card.specs.declared.Kind.{Kind}
 use Rattle.card.specs.declared.Kind.the-variants as kind
@@ -75,9 +76,9 @@ body-back k given answer g = ap₂ (bodyOf k) (take-at given answer problemSize 
 
 answer-length : (said : conic.Said) → length (answerFor said) ≡ answerSize (kindFor said)
 unfolding answerSize
-answer-length (conic.solved x n state) = length-numbers (solvedNumbers x state)
-answer-length (conic.refused k n) = length-bytes 4 k
-answer-length (conic.refusedWithBracket k n lo hi) = length-bytes 4 k
+answer-length (answer.solved x n state) = length-numbers (solvedNumbers x state)
+answer-length (answer.refused k n) = length-bytes 4 k
+answer-length (answer.refusedWithBracket k n lo hi) = length-bytes 4 k
 
 module _ (given : List ℕ) (sized : length given ≡ problemSize) (said : conic.Said) where
   pub made-size : length (cardFor given said .body) ≡ sizeOf (cardFor given said .kind)

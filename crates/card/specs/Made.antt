@@ -9,6 +9,7 @@ use Rattle.spelled.specs.Spelled.{bytesOf}
 use Rattle.words.specs.Words.{wordsBytes}
 use Rattle.conic.specs.declared.State.{State}
 use Rattle.conic.specs.declared.Problem.{Problem}
+use Rattle.search.specs.Answers as answer
 use Rattle.conic.specs.Said as conic
 use Rattle.card.specs.declared.Kind.{Kind}
 use Rattle.card.specs.declared.Kind.the-variants as kind
@@ -54,14 +55,14 @@ refusedBody given k = bodyOf kind.Refused given (bytesOf 4 k)
 
 -- Writing a deck 1: what an answer makes of a problem: the kind of the card, the answer's bytes, and the card
 abbrev pub kindFor : conic.Said → Kind
-kindFor (conic.solved x n state) = kind.Solved
-kindFor (conic.refused k n) = kind.Refused
-kindFor (conic.refusedWithBracket k n lo hi) = kind.Refused
+kindFor (answer.solved x n state) = kind.Solved
+kindFor (answer.refused k n) = kind.Refused
+kindFor (answer.refusedWithBracket k n lo hi) = kind.Refused
 
 abbrev pub answerFor : conic.Said → List ℕ
-answerFor (conic.solved x n state) = solvedAnswer x state
-answerFor (conic.refused k n) = bytesOf 4 k
-answerFor (conic.refusedWithBracket k n lo hi) = bytesOf 4 k
+answerFor (answer.solved x n state) = solvedAnswer x state
+answerFor (answer.refused k n) = bytesOf 4 k
+answerFor (answer.refusedWithBracket k n lo hi) = bytesOf 4 k
 
 abbrev pub cardFor : (given : List ℕ) → conic.Said → Card
 cardFor given said = record { kind = kindFor said; body = bodyOf (kindFor said) given (answerFor said) }

@@ -13,7 +13,8 @@ use Rattle.conic.specs.declared.Outcome.the-variants as outcome
 use Rattle.conic.specs.declared.unfolding.Arrival.{Arrival}
 use Rattle.conic.specs.declared.unfolding.Arrival.the-variants as arrival
 use Rattle.rows.specs.Rows.{Checked, pass, refuse}
-use Rattle.conic.specs.Said.{Said, solved, refused, refusedWithBracket, reasonNumber, said, arrived}
+use Rattle.search.specs.Answers.{solved, refused, refusedWithBracket}
+use Rattle.conic.specs.Said.{Said, reasonNumber, said, arrived}
 
 -- ---- a reason by its number: a list from 0 on, where the numbers 0 and 13 are no prediction's
 abbrev reasons : List Reason

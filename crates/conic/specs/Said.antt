@@ -1,6 +1,5 @@
 -- What the answers say, in the numbers and values of RULES, Refusal numbers. Definitions only.
 use Prim.Native.Nat.{ℕ}
-use lib.Ieee.{Float}
 use Rattle.conic.specs.declared.State.{State}
 use Rattle.conic.specs.declared.Reason.{Reason}
 use Rattle.conic.specs.declared.Reason.the-variants as why
@@ -9,6 +8,7 @@ use Rattle.conic.specs.declared.Outcome.the-variants as outcome
 use Rattle.conic.specs.declared.unfolding.Arrival.{Arrival}
 use Rattle.conic.specs.declared.unfolding.Arrival.the-variants as arrival
 use Rattle.rows.specs.Rows.{Checked, pass, refuse}
+use Rattle.search.specs.Answers.{Answer, solved, refused, refusedWithBracket}
 
 -- the number that the table gives to each reason
 abbrev pub reasonNumber : Reason → ℕ
@@ -26,22 +26,14 @@ reasonNumber why.TooNearCentre = 11
 reasonNumber why.TowardsInfinity = 12
 reasonNumber why.RootRefused = 14
 
--- Refusal numbers, notes b and c: the three cases of an outcome. Solved has x, count and state; a refusal its number and count, and with 9
--- and 10 the bracket's two ends
-pub data Said : Type 0 where
-  solved : Float → ℕ → State → Said
-  refused : ℕ → ℕ → Said
-  refusedWithBracket : ℕ → ℕ → Float → Float → Said
+-- Refusal numbers, notes b and c: an outcome is a search's answer, with a state where it is solved
+abbrev pub Said : Type 0
+Said = Answer State
 
 abbrev pub said : Outcome → Said
 said (outcome.Solved x n state) = solved x n state
 said (outcome.Refused why n) = refused (reasonNumber why) n
 said (outcome.RefusedWithBracket why n lo hi) = refusedWithBracket (reasonNumber why) n lo hi
-
--- a solution, where the state at x is allowed; else its refusal
-abbrev pub withState : Float → ℕ → Checked State → Said
-withState x n (pass state) = solved x n state
-withState x n (refuse k) = refused k n
 
 -- an arrival: a state, or the refusal
 abbrev pub arrived : Arrival → Checked State

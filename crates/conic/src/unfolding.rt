@@ -5,7 +5,8 @@ use crate::Reason;
 use crate::Scaled;
 use crate::State;
 ghost use mathlib.Core.Path.{_≡_};
-ghost use Rattle.conic.specs.Said.{said, arrived, withState};
+ghost use Rattle.conic.specs.Said.{said, arrived};
+ghost use Rattle.search.specs.Answers.{withFound};
 ghost use Rattle.conic.specs.Unfolding.{unfolded, arrivalOf, arrivalAt};
 
 // 2^-10: the least radius ratio.
@@ -41,7 +42,7 @@ pub fn arrive_at(o: Scaled, x: f64) -> Arrival
 
 // A prediction's answer: the state with its x and count, or the refusal with the count.
 pub fn outcome_of(arrival: Arrival, x: f64, count: u32) -> Outcome
-    ensures { λ r. ⌜ said r ≡ withState x count (arrived arrival) ⌝ }
+    ensures { λ r. ⌜ said r ≡ withFound x count (arrived arrival) ⌝ }
 {
     match arrival {
         Arrival::State(state) => Outcome::Solved { x, count, state },

@@ -16,9 +16,11 @@ use Rattle.vectors.specs.declared.Vector.{Vector}
 use Rattle.conic.specs.declared.Problem.{Problem}
 use Rattle.conic.specs.declared.Scaled.{Scaled}
 use Rattle.rows.specs.Rows.{Checked, pass, must, onward}
-use Rattle.vectors.specs.Vectors.{allFinite, multiple}
+use Rattle.search.specs.Search.{limitAllowed}
+use Rattle.vectors.specs.Vectors.{allFinite, multiple, dot, over}
+use Rattle.units.specs.Units.{radiusOf, unitOf, numbered}
 use Rattle.conic.specs.TimeAndRatio.{timeAt}
-use Rattle.entry.specs.Entry.{straight, inputsTested, dot, over, radiusOf, unitOf, testedBy, scaledBy, scaledOf, farEndOf, startingBracket, bracketedBy, startOf, entryOf}
+use Rattle.entry.specs.Entry.{straight, inputsTested, testedBy, scaledBy, scaledOf, farEndOf, startingBracket, bracketedBy, startOf, entryOf}
 use Rattle.rows.proofs.Laws.{pass-once, test-passed, rows-passed}
 use Rattle.conic.proofs.Fitting.{time-fits}
 
@@ -54,9 +56,9 @@ tested-is q o e h f =
 scaled-is : (mu : Float) (r v : Vector) (dt : Float) (e : Scaled) → scaledOf mu r v dt ≡ pass e → Numbers e
 unfolding scaledBy scaledOf
 scaled-is mu r v dt e h =
-    let R = rows-passed (radiusOf r) (λ r0. onward (unitOf mu r0) (λ f. scaledBy r v dt r0 (f .0) (f .1))) h in
+    let R = rows-passed (numbered 5 14 (radiusOf r)) (λ r0. onward (numbered 6 14 (unitOf mu r0)) (λ f. scaledBy r v dt r0 (f .0) (f .1))) h in
     let r0 = R .0 in
-    let F = rows-passed (unitOf mu r0) (λ f. scaledBy r v dt r0 (f .0) (f .1)) (R .2) in
+    let F = rows-passed (numbered 6 14 (unitOf mu r0)) (λ f. scaledBy r v dt r0 (f .0) (f .1)) (R .2) in
     let f1 = F .0 .0 in
     let f4 = F .0 .1 in
     let w = multiple f1 v in
@@ -101,7 +103,7 @@ bracketed-is o far e h =
 pub entered : (p : Problem) (o : Scaled) (b : Bracket) → entryOf p ≡ pass (o, b) → Entered p o b
 unfolding startOf entryOf
 entered p o b h =
-    let in-range = leb 1 (p .limit) && leb (p .limit) 100 in
+    let in-range = limitAllowed (p .limit) in
     let row = onward (scaledOf (p .mu) (p .r) (p .v) (p .dt)) startOf in
     let inputs = rows-passed (inputsTested (p .mu) (p .r) (p .v) (p .dt)) (λ good. must in-range 3 row) h in
     let third = test-passed in-range 3 row (inputs .2) in

@@ -7,7 +7,9 @@ use Rattle.root.specs.Root.{rootOf}
 use Rattle.vectors.specs.declared.Vector.{Vector}
 use Rattle.conic.specs.declared.Problem.{Problem}
 use Rattle.conic.specs.declared.Scaled.{Scaled}
-use Rattle.entry.specs.Entry.{inputsTested, fromRoot, rooted, radiusOf, unitOf, testedBy, scaledBy, scaledOf, sixtyFourth, farEndOf, bracketedBy, startOf, entryOf}
+use Rattle.entry.specs.Entry.{inputsTested, fromRoot, rooted, testedBy, scaledBy, scaledOf, sixtyFourth, farEndOf, bracketedBy, startOf, entryOf}
+use Rattle.units.specs.Units.{radiusOf, unitOf}
+use Rattle.units.proofs.Refusals.{measure-refuses}
 use Rattle.conic.proofs.Arrival.{Numbered}
 use Rattle.rows.proofs.Laws.{Refuses, passes, refuses, must-refuses, cond-refuses, onward-refuses}
 
@@ -23,14 +25,6 @@ inputs-refuse : (mu : Float) (r v : Vector) (last : Float) → Refuses Numbered 
 unfolding inputsTested
 inputs-refuse mu r v last = must-refuses _ 1 _ tt (must-refuses _ 2 _ tt passes)
 
-radius-refuses : (r : Vector) → Refuses Numbered (radiusOf r)
-unfolding radiusOf
-radius-refuses r = must-refuses _ 5 _ tt (onward-refuses _ _ (root-refuses _) (λ r0. must-refuses _ 5 _ tt passes))
-
-unit-refuses : (mu r0 : Float) → Refuses Numbered (unitOf mu r0)
-unfolding unitOf
-unit-refuses mu r0 = must-refuses _ 6 _ tt (onward-refuses _ _ (root-refuses _) (λ f1. must-refuses _ 6 _ tt passes))
-
 tested-refuses : (q : Float) (o : Scaled) → Refuses Numbered (testedBy q o)
 unfolding testedBy
 tested-refuses q o = must-refuses _ 6 _ tt (must-refuses _ 7 _ tt passes)
@@ -41,7 +35,7 @@ scaling-refuses r v dt r0 f1 f4 = must-refuses _ 6 _ tt (tested-refuses _ _)
 
 scaled-refuses : (mu : Float) (r v : Vector) (dt : Float) → Refuses Numbered (scaledOf mu r v dt)
 unfolding scaledOf
-scaled-refuses mu r v dt = onward-refuses _ _ (radius-refuses r) (λ r0. onward-refuses _ _ (unit-refuses mu r0) (λ f. scaling-refuses r v dt r0 (f .0) (f .1)))
+scaled-refuses mu r v dt = onward-refuses _ _ (measure-refuses 5 14 (radiusOf r) tt tt) (λ r0. onward-refuses _ _ (measure-refuses 6 14 (unitOf mu r0) tt tt) (λ f. scaling-refuses r v dt r0 (f .0) (f .1)))
 
 far-end-refuses : (alpha : Float) → Refuses Numbered (farEndOf alpha)
 unfolding farEndOf

@@ -1,8 +1,7 @@
 -- The tests before the first guess and what they compute: RULES, From the state to the scaled problem ("scaling" below), and Refusal
 -- numbers, in order of test. Definitions only.
 use mathlib.Core.Bool.{Bool, cond, not, _&&_}
-use lib.Dec.{leb}
-use lib.Ieee.{Float, lt, le, ne, neg}
+use lib.Ieee.{Float, lt, le, neg}
 use Rattle.exact.specs.Numbers.{_⊕_, _⊖_, _⊗_, _⊘_, numberOf, nought, two, isFinite, magnitude}
 use Rattle.root.specs.Said as root
 use Rattle.root.specs.Root.{rootOf}
@@ -12,12 +11,10 @@ use Rattle.vectors.specs.declared.Vector.{Vector}
 use Rattle.conic.specs.declared.Problem.{Problem}
 use Rattle.conic.specs.declared.Scaled.{Scaled}
 use Rattle.rows.specs.Rows.{Checked, pass, refuse, must, onward}
-use Rattle.vectors.specs.Vectors.{allFinite, multiple}
+use Rattle.search.specs.Search.{limitAllowed}
+use Rattle.vectors.specs.Vectors.{allFinite, multiple, dot, over}
+use Rattle.units.specs.Units.{givenFinite, radiusOf, unitOf, numbered}
 use Rattle.conic.specs.TimeAndRatio.{timeAt}
-
--- refusal 1: every number given is finite. The last is the time or the angle.
-abbrev pub givenFinite : (mu : Float) (r v : Vector) (last : Float) → Bool
-givenFinite mu r v last = isFinite mu && allFinite r && allFinite v && isFinite last
 
 -- 1, then 2, mu ≤ 0: the tests that Kepler and Theta begin with
 unfoldable pub inputsTested : (mu : Float) (r v : Vector) (last : Float) → Checked (Unit {0})
@@ -26,10 +23,6 @@ inputsTested mu r v last =
     (must (lt nought mu) 2
     (pass tt))
 
--- neither zero nor NaN nor infinite
-abbrev pub isUsable : Float → Bool
-isUsable x = isFinite x && ne x nought
-
 -- refusal 14: a root on the way was refused
 abbrev pub fromRoot : root.Said → Checked Float
 fromRoot (root.root x) = pass x
@@ -37,26 +30,6 @@ fromRoot (root.refused k) = refuse 14
 
 unfoldable pub rooted : Float → Checked Float
 rooted x = fromRoot (rootOf x)
-
--- the dot of two vectors: three products, added in order
-abbrev pub dot : Vector → Vector → Float
-dot a b = a .x ⊗ b .x ⊕ a .y ⊗ b .y ⊕ a .z ⊗ b .z
-
--- scaling 1: r0 = root(r·r). Refusal 5 where r·r or r0 is not usable
-unfoldable pub radiusOf : Vector → Checked Float
-radiusOf r =
-    must (isUsable (dot r r)) 5
-    (onward (rooted (dot r r)) (λ r0.
-    must (isUsable r0) 5
-    (pass r0)))
-
--- scaling 2 and 3: f1 = root(r0/mu); f4 = r0*f1. Refusal 6 where r0/mu, before its root, or f1 or f4 is not usable
-unfoldable pub unitOf : (mu r0 : Float) → Checked (Float × Float)
-unitOf mu r0 =
-    must (isUsable (r0 ⊘ mu)) 6
-    (onward (rooted (r0 ⊘ mu)) (λ f1.
-    must (isUsable f1 && isUsable (r0 ⊗ f1)) 6
-    (pass (f1, r0 ⊗ f1))))
 
 -- 2^-20
 abbrev pub straight : Float
@@ -68,10 +41,6 @@ testedBy q o =
     must (isFinite (o .s) && isFinite q && isFinite (o .alpha) && isFinite (o .p) && isFinite (o .t)) 6
     (must (not (lt (o .p) straight)) 7
     (pass o))
-
--- a/k, by component
-abbrev pub over : Vector → Float → Vector
-over a k = record { x = a .x ⊘ k; y = a .y ⊘ k; z = a .z ⊘ k }
 
 -- scaling 4 to 9. Refusal 6 where w is not finite, and the tests above
 unfoldable pub scaledBy : (r v : Vector) (dt r0 f1 f4 : Float) → Checked Scaled
@@ -86,9 +55,12 @@ scaledBy r v dt r0 f1 f4 =
     must (allFinite w) 6
     (testedBy q (record { s = s; alpha = alpha; p = p; t = t; f4 = f4; r0 = r0; r = r; v = v }))
 
--- the scaled problem
+-- the scaled problem, from scaling 1 to 3 on: refusal 5 for the radius, 6 for the unit, and 14 for either root
 unfoldable pub scaledOf : (mu : Float) (r v : Vector) (dt : Float) → Checked Scaled
-scaledOf mu r v dt = onward (radiusOf r) (λ r0. onward (unitOf mu r0) (λ f. scaledBy r v dt r0 (f .0) (f .1)))
+scaledOf mu r v dt =
+    onward (numbered 5 14 (radiusOf r)) (λ r0.
+    onward (numbered 6 14 (unitOf mu r0)) (λ f.
+    scaledBy r v dt r0 (f .0) (f .1)))
 
 abbrev pub sixtyFourth : Float
 sixtyFourth = numberOf 0x3f90_0000_0000_0000
@@ -126,7 +98,7 @@ startOf o = onward (farEndOf (o .alpha)) (λ x. bracketedBy o (cond (le nought (
 unfoldable pub entryOf : Problem → Checked (Scaled × Bracket)
 entryOf p =
     onward (inputsTested (p .mu) (p .r) (p .v) (p .dt)) (λ good.
-    must (leb 1 (p .limit) && leb (p .limit) 100) 3
+    must (limitAllowed (p .limit)) 3
     (onward (scaledOf (p .mu) (p .r) (p .v) (p .dt)) startOf))
 
 abbrev pub largestAngle : Float

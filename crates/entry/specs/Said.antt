@@ -6,8 +6,6 @@ use Rattle.conic.specs.declared.Scaled.{Scaled}
 use Rattle.conic.specs.Said.{reasonNumber}
 use Rattle.entry.specs.declared.Number.{Number}
 use Rattle.entry.specs.declared.Number.the-variants as number
-use Rattle.entry.specs.declared.TimeUnit.{TimeUnit}
-use Rattle.entry.specs.declared.TimeUnit.the-variants as unit
 use Rattle.entry.specs.declared.Inputs.{Inputs}
 use Rattle.entry.specs.declared.Inputs.the-variants as inputs
 use Rattle.entry.specs.declared.Scaling.{Scaling}
@@ -22,10 +20,6 @@ passedInputs (inputs.Refused why) = refuse (reasonNumber why)
 abbrev pub passedNumber : Number → Checked Float
 passedNumber (number.Passed x) = pass x
 passedNumber (number.Refused why) = refuse (reasonNumber why)
-
-abbrev pub passedUnit : TimeUnit → Checked (Float × Float)
-passedUnit (unit.Passed f1 f4) = pass (f1, f4)
-passedUnit (unit.Refused why) = refuse (reasonNumber why)
 
 abbrev pub passedScaled : Scaling → Checked Scaled
 passedScaled (scaling.Passed o) = pass o

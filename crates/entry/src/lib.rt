@@ -10,10 +10,12 @@ use conic::Scaled;
 use root::Answer;
 use search::Bracket;
 use search::Point;
+use units::Length;
+use units::TimeUnit;
 use vectors::Vector;
 ghost use mathlib.Core.Path.{_≡_};
-ghost use Rattle.entry.specs.Said.{passedInputs, passedNumber, passedUnit, passedScaled, passedStart};
-ghost use Rattle.entry.specs.Entry.{givenFinite, inputsTested, isUsable, dot, over, radiusOf, unitOf, testedBy, scaledBy, scaledOf, farEndOf, bracketedBy, startOf, entryOf, angleEntryOf};
+ghost use Rattle.entry.specs.Said.{passedInputs, passedNumber, passedScaled, passedStart};
+ghost use Rattle.entry.specs.Entry.{inputsTested, testedBy, scaledBy, scaledOf, farEndOf, bracketedBy, startOf, entryOf, angleEntryOf};
 
 // 2^-20: a smaller p is a straight line.
 const STRAIGHT: f64 = 9.5367431640625e-07;
@@ -40,12 +42,6 @@ enum Number {
     Refused(Reason),
 }
 
-// f1 and the time unit f4, or why there are none.
-enum TimeUnit {
-    Passed(f64, f64),
-    Refused(Reason),
-}
-
 // Whether the numbers given can be worked with, or why not.
 enum Inputs {
     Passed,
@@ -63,7 +59,7 @@ pub fn entry(p: Problem) -> Start
     if let Inputs::Refused(why) = inputs {
         return Start::Refused(why);
     }
-    if !((1 <= limit) & (limit <= 100)) {
+    if !search::allows(limit) {
         return Start::Refused(Reason::LimitOutOfRange);
     }
     match scale(p.mu, r, v, p.dt) {
@@ -90,7 +86,7 @@ pub fn angle_entry(mu: f64, r: Vector, v: Vector, a: f64) -> Scaling
 fn first_tests(mu: f64, r: Vector, v: Vector, last: f64) -> Inputs
     ensures { λ x. ⌜ passedInputs x ≡ inputsTested mu r v last ⌝ }
 {
-    if !given(mu, r, v, last) {
+    if !units::given(mu, r, v, last) {
         return Inputs::Refused(Reason::InputNotFinite);
     }
     if !(0.0 < mu) {
@@ -99,62 +95,16 @@ fn first_tests(mu: f64, r: Vector, v: Vector, last: f64) -> Inputs
     Inputs::Passed
 }
 
-fn given(mu: f64, r: Vector, v: Vector, last: f64) -> bool
-    ensures { λ x. ⌜ x ≡ givenFinite mu r v last ⌝ }
-{
-    exact::finite(mu) & vectors::all_finite(r) & vectors::all_finite(v) & exact::finite(last)
-}
-
-// Neither zero nor NaN nor infinite.
-fn usable(x: f64) -> bool
-    ensures { λ r. ⌜ r ≡ isUsable x ⌝ }
-{
-    exact::finite(x) & (x != 0.0)
-}
-
-// r0.
-fn radius(r: Vector) -> Number
-    ensures { λ x. ⌜ passedNumber x ≡ radiusOf r ⌝ }
-{
-    let square = product(r, r);
-    if !usable(square) {
-        return Number::Refused(Reason::NoRadius);
-    }
-    let Answer::Root(r0) = root::root(square) else {
-        return Number::Refused(Reason::RootRefused);
-    };
-    if !usable(r0) {
-        return Number::Refused(Reason::NoRadius);
-    }
-    Number::Passed(r0)
-}
-
-// f1 and f4.
-fn time_unit(mu: f64, r0: f64) -> TimeUnit
-    ensures { λ x. ⌜ passedUnit x ≡ unitOf mu r0 ⌝ }
-{
-    let quotient = r0 / mu;
-    if !usable(quotient) {
-        return TimeUnit::Refused(Reason::NotFinite);
-    }
-    let Answer::Root(f1) = root::root(quotient) else {
-        return TimeUnit::Refused(Reason::RootRefused);
-    };
-    let f4 = r0 * f1;
-    if !(usable(f1) & usable(f4)) {
-        return TimeUnit::Refused(Reason::NotFinite);
-    }
-    TimeUnit::Passed(f1, f4)
-}
-
 fn scale(mu: f64, r: Vector, v: Vector, dt: f64) -> Scaling
     ensures { λ x. ⌜ passedScaled x ≡ scaledOf mu r v dt ⌝ }
 {
-    match radius(r) {
-        Number::Refused(why) => Scaling::Refused(why),
-        Number::Passed(r0) => match time_unit(mu, r0) {
-            TimeUnit::Refused(why) => Scaling::Refused(why),
-            TimeUnit::Passed(f1, f4) => scale_by(r, v, dt, r0, f1, f4),
+    match units::radius(r) {
+        Length::Unusable => Scaling::Refused(Reason::NoRadius),
+        Length::RootRefused => Scaling::Refused(Reason::RootRefused),
+        Length::Measured(r0) => match units::time_unit(mu, r0) {
+            TimeUnit::Unusable => Scaling::Refused(Reason::NotFinite),
+            TimeUnit::RootRefused => Scaling::Refused(Reason::RootRefused),
+            TimeUnit::Measured(f1, f4) => scale_by(r, v, dt, r0, f1, f4),
         },
     }
 }
@@ -162,10 +112,10 @@ fn scale(mu: f64, r: Vector, v: Vector, dt: f64) -> Scaling
 fn scale_by(r: Vector, v: Vector, dt: f64, r0: f64, f1: f64, f4: f64) -> Scaling
     ensures { λ x. ⌜ passedScaled x ≡ scaledBy r v dt r0 f1 f4 ⌝ }
 {
-    let u = divided(r, r0);
+    let u = vectors::divided(r, r0);
     let w = vectors::scaled(f1, v);
-    let s = product(u, w);
-    let q = product(w, w);
+    let s = vectors::product(u, w);
+    let q = vectors::product(w, w);
     let alpha = 2.0 - q;
     let p = q - s * s;
     let t = dt / f4;
@@ -254,21 +204,4 @@ fn bracketed(o: Scaled, far: f64) -> Start
         return Start::Refused(Reason::BeyondFarEnd);
     }
     Start::Passed(o, Bracket { lo: end, hi: zero })
-}
-
-// Three products, added in order.
-fn product(a: Vector, b: Vector) -> f64
-    ensures { λ r. ⌜ r ≡ dot a b ⌝ }
-{
-    a.x * b.x + a.y * b.y + a.z * b.z
-}
-
-fn divided(a: Vector, by: f64) -> Vector
-    ensures { λ r. ⌜ r ≡ over a by ⌝ }
-{
-    Vector {
-        x: a.x / by,
-        y: a.y / by,
-        z: a.z / by,
-    }
 }

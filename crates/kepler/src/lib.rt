@@ -16,9 +16,11 @@ ghost use mathlib.Core.Path.{_≡_};
 ghost use Prim.Native.Nat.{_≤_};
 ghost use Rattle.search.specs.Said.{ended};
 ghost use Rattle.search.specs.Search.{searchOf};
+ghost use Rattle.search.specs.Answers.{withFound, answerOf};
 ghost use Rattle.conic.specs.Said.{said};
 ghost use Rattle.conic.specs.TimeAndRatio.{timeAt};
-ghost use Rattle.kepler.specs.Kepler.{arrivedAt, outcomeOf, keplerOf};
+ghost use Rattle.conic.specs.Unfolding.{arrivalAt};
+ghost use Rattle.kepler.specs.Kepler.{keplerOf};
 
 // The state after dt, or the refusal.
 pub fn kepler(p: Problem) -> Outcome
@@ -65,7 +67,7 @@ fn hunt(o: Scaled, start: Bracket, limit: u32) -> Found
 
 // What the search's end comes to.
 fn settled(o: Scaled, found: Found) -> Outcome
-    ensures { λ r. ⌜ said r ≡ outcomeOf o (ended found) ⌝ }
+    ensures { λ r. ⌜ said r ≡ answerOf (arrivalAt o) (ended found) ⌝ }
 {
     match found {
         Found::Solved(x, count) => arrived(o, x, count),
@@ -81,7 +83,7 @@ fn settled(o: Scaled, found: Found) -> Outcome
 
 // The state at x, where the radius is allowed and every component is finite.
 fn arrived(o: Scaled, x: f64, count: u32) -> Outcome
-    ensures { λ r. ⌜ said r ≡ arrivedAt o x count ⌝ }
+    ensures { λ r. ⌜ said r ≡ withFound x count (arrivalAt o x) ⌝ }
 {
     conic::unfolding::outcome_of(conic::unfolding::arrive_at(o, x), x, count)
 }

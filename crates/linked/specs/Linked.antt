@@ -5,6 +5,7 @@ use lib.Ieee.{Float, nan, binary64, neg, ofInt}
 use Rattle.exact.specs.Numbers.{_⊕_}
 use Rattle.conic.specs.declared.State.{State}
 use Rattle.rows.specs.Rows.{Checked, pass, refuse}
+use Rattle.search.specs.Answers as answer
 use Rattle.conic.specs.Said as conic
 use Rattle.deck.specs.declared.Totals.{Totals}
 use Rattle.deck.specs.Tally.{Residuals, absent, known}
@@ -15,15 +16,15 @@ stateSum x state = x ⊕ state .r .x ⊕ state .r .y ⊕ state .r .z ⊕ state .
 
 -- the number of an outcome's refusal; 0 where it is solved, which is no refusal's number
 abbrev pub outcomeNumber : conic.Said → ℕ
-outcomeNumber (conic.solved x n state) = 0
-outcomeNumber (conic.refused k n) = k
-outcomeNumber (conic.refusedWithBracket k n lo hi) = k
+outcomeNumber (answer.solved x n state) = 0
+outcomeNumber (answer.refused k n) = k
+outcomeNumber (answer.refusedWithBracket k n lo hi) = k
 
 -- what a lent number becomes: the sum of a solved outcome; a refusal leaves it
 abbrev pub sumAfter : conic.Said → Float → Float
-sumAfter (conic.solved x n state) lent = stateSum x state
-sumAfter (conic.refused k n) lent = lent
-sumAfter (conic.refusedWithBracket k n lo hi) lent = lent
+sumAfter (answer.solved x n state) lent = stateSum x state
+sumAfter (answer.refused k n) lent = lent
+sumAfter (answer.refusedWithBracket k n lo hi) lent = lent
 
 -- the number of a deck's refusal with a minus, since no mean is below zero
 abbrev pub minusNumber : ℕ → Float

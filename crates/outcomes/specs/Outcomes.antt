@@ -4,6 +4,7 @@ use mathlib.Core.List.{List, [], _∷_}
 use Rattle.pieces.specs.Pieces.{joined}
 use Rattle.text.specs.Text.{text, count, number}
 use Rattle.vectors.specs.declared.Vector.{Vector}
+use Rattle.search.specs.Answers as answer
 use Rattle.conic.specs.Said as conic
 
 -- the three numbers of a vector
@@ -16,9 +17,9 @@ refusal k n = joined (text "refused" ∷ count k ∷ count n ∷ [])
 
 -- Lines 3: `solved COUNT X RX RY RZ VX VY VZ`, `refused NUMBER COUNT` or `refused NUMBER COUNT LO HI`
 abbrev pub outcomeLine : conic.Said → List ℕ
-outcomeLine (conic.solved x n state) = joined (text "solved" ∷ count n ∷ number x ∷ vector (state .r) ∷ vector (state .v) ∷ text "\n" ∷ [])
-outcomeLine (conic.refused k n) = joined (refusal k n ∷ text "\n" ∷ [])
-outcomeLine (conic.refusedWithBracket k n lo hi) = joined (refusal k n ∷ number lo ∷ number hi ∷ text "\n" ∷ [])
+outcomeLine (answer.solved x n state) = joined (text "solved" ∷ count n ∷ number x ∷ vector (state .r) ∷ vector (state .v) ∷ text "\n" ∷ [])
+outcomeLine (answer.refused k n) = joined (refusal k n ∷ text "\n" ∷ [])
+outcomeLine (answer.refusedWithBracket k n lo hi) = joined (refusal k n ∷ number lo ∷ number hi ∷ text "\n" ∷ [])
 
 -- no outcome's line has more bytes
 abbrev pub mostOutcome : ℕ

@@ -1,11 +1,16 @@
 -- RULES, The search, for any unknown: `time` is the time that a guess comes to, `t` the wanted one. Definitions only.
 use Prim.Native.Nat.{ℕ, zero, suc, _+_, _-_}
 use mathlib.Core.Bool.{Bool, cond, _&&_}
+use lib.Dec.{leb}
 use lib.Ieee.{Float, lt, le}
 use Rattle.exact.specs.Numbers.{_⊕_, _⊖_, _⊗_, _⊘_, isFinite, isNear, middle}
 use Rattle.search.specs.declared.Point.{Point}
 use Rattle.search.specs.declared.Bracket.{Bracket}
 use Rattle.search.specs.Said.{Try, guess, noGuess, Ending, solved, closed, spent, lost}
+
+-- refusal 3: the limits of guesses that a search takes
+abbrev pub limitAllowed : ℕ → Bool
+limitAllowed limit = leb 1 limit && leb limit 100
 
 -- in the bracket, whose ends count as inside
 abbrev pub within : Bracket → Float → Bool

@@ -5,7 +5,7 @@
 // functions here, and its contract cites `searchOf` of `specs/Search.antt`. Every function is
 // proved and total, NaN and infinities included, and the crate assumes nothing.
 ghost use mathlib.Core.Path.{_≡_};
-ghost use Rattle.search.specs.Search.{within, firstGuess, narrowedBy, lineThrough, inside, middleOf, choose, nextGuess};
+ghost use Rattle.search.specs.Search.{limitAllowed, within, firstGuess, narrowedBy, lineThrough, inside, middleOf, choose, nextGuess};
 ghost use Rattle.search.specs.Said.{said};
 
 // A guess or an end, with its time.
@@ -32,6 +32,13 @@ pub enum Found {
     Closed(Bracket, u32),
     Spent(Bracket, u32),
     Lost(u32),
+}
+
+// Whether a search may be given this limit of guesses: 1 to 100.
+pub fn allows(limit: u32) -> bool
+    ensures { λ r. ⌜ r ≡ limitAllowed limit ⌝ }
+{
+    (1 <= limit) & (limit <= 100)
 }
 
 // Whether x lies in the bracket, ends included; a NaN does not.

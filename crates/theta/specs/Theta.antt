@@ -5,7 +5,8 @@ use Rattle.conic.specs.declared.State.{State}
 use Rattle.vectors.specs.declared.Vector.{Vector}
 use Rattle.conic.specs.declared.Scaled.{Scaled}
 use Rattle.rows.specs.Rows.{Checked, must, onward}
-use Rattle.conic.specs.Said.{Said, withState}
+use Rattle.search.specs.Answers.{withFound}
+use Rattle.conic.specs.Said.{Said}
 use Rattle.universal.specs.Functions.{functionsAt}
 use Rattle.conic.specs.Unfolding.{arrivalOf}
 use Rattle.entry.specs.Entry.{rooted, angleEntryOf}
@@ -38,4 +39,4 @@ turnedState o a =
 
 -- Theta 7: the angle stands as x, and the count is 0
 unfoldable pub thetaOf : (mu : Float) (r v : Vector) (a : Float) → Said
-thetaOf mu r v a = withState a 0 (onward (angleEntryOf mu r v a) (λ o. turnedState o a))
+thetaOf mu r v a = withFound a 0 (onward (angleEntryOf mu r v a) (λ o. turnedState o a))

@@ -12,7 +12,8 @@ use Rattle.vectors.specs.declared.Vector.{Vector}
 use Rattle.conic.specs.declared.Problem.{Problem}
 use Rattle.conic.specs.declared.Scaled.{Scaled}
 use Rattle.rows.specs.Rows.{pass, onward}
-use Rattle.conic.specs.Said.{Said, solved, refused, refusedWithBracket}
+use Rattle.search.specs.Answers.{solved, refused, refusedWithBracket}
+use Rattle.conic.specs.Said.{Said}
 use Rattle.universal.specs.Functions.{four, functionsAt}
 use Rattle.conic.specs.TimeAndRatio.{ratioAt}
 use Rattle.conic.specs.Unfolding.{stateAt}

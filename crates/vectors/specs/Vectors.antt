@@ -1,7 +1,7 @@
 -- Vectors by component: RULES, From the state to the scaled problem, and Unfolding. Definitions only.
 use mathlib.Core.Bool.{Bool, _&&_}
 use lib.Ieee.{Float}
-use Rattle.exact.specs.Numbers.{_⊕_, _⊗_, isFinite}
+use Rattle.exact.specs.Numbers.{_⊕_, _⊗_, _⊘_, isFinite}
 use Rattle.vectors.specs.declared.Vector.{Vector}
 
 abbrev pub allFinite : Vector → Bool
@@ -14,3 +14,11 @@ multiple k a = record { x = k ⊗ a .x; y = k ⊗ a .y; z = k ⊗ a .z }
 -- a*f + b*g
 abbrev pub combined : Vector → Float → Vector → Float → Vector
 combined a f b g = record { x = a .x ⊗ f ⊕ b .x ⊗ g; y = a .y ⊗ f ⊕ b .y ⊗ g; z = a .z ⊗ f ⊕ b .z ⊗ g }
+
+-- the dot of two vectors: three products, added in order
+abbrev pub dot : Vector → Vector → Float
+dot a b = a .x ⊗ b .x ⊕ a .y ⊗ b .y ⊕ a .z ⊗ b .z
+
+-- a/k, by component
+abbrev pub over : Vector → Float → Vector
+over a k = record { x = a .x ⊘ k; y = a .y ⊘ k; z = a .z ⊘ k }

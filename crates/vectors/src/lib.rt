@@ -3,7 +3,7 @@
 //
 // Every function here is proved and total, and the crate assumes nothing.
 ghost use mathlib.Core.Path.{_≡_};
-ghost use Rattle.vectors.specs.Vectors.{allFinite, multiple, combined};
+ghost use Rattle.vectors.specs.Vectors.{allFinite, multiple, combined, dot, over};
 
 pub struct Vector {
     pub x: f64,
@@ -37,5 +37,23 @@ pub fn sum(a: Vector, f: f64, b: Vector, g: f64) -> Vector
         x: a.x * f + b.x * g,
         y: a.y * f + b.y * g,
         z: a.z * f + b.z * g,
+    }
+}
+
+// Three products, added in order.
+pub fn product(a: Vector, b: Vector) -> f64
+    ensures { λ r. ⌜ r ≡ dot a b ⌝ }
+{
+    a.x * b.x + a.y * b.y + a.z * b.z
+}
+
+// a/k, where `by` is k.
+pub fn divided(a: Vector, by: f64) -> Vector
+    ensures { λ r. ⌜ r ≡ over a by ⌝ }
+{
+    Vector {
+        x: a.x / by,
+        y: a.y / by,
+        z: a.z / by,
     }
 }

@@ -18,12 +18,14 @@ use Rattle.words.proofs.Written.{valueAt-front, valueAt-back, valueAt-bytes, va
 use Rattle.conic.specs.declared.State.{State}
 use Rattle.conic.specs.declared.Problem.{Problem}
 use Rattle.rows.specs.Rows.{Checked}
+use Rattle.search.specs.Answers as answer
 use Rattle.conic.specs.Said as conic
 use Rattle.conic.specs.Unfolding.{stateAt}
-use Rattle.conic.proofs.Arrival.{Numbered, numbered-is, Arrives}
+use Rattle.conic.proofs.Arrival.{Numbered, numbered-is, Arrives, arrives}
 use Rattle.conic.proofs.Fitting.{StateFits, ProblemFits, state-fits}
 use Rattle.kepler.specs.Kepler.{keplerOf}
-use Rattle.kepler.proofs.Laws.{RefusalNumbered, refusal-numbered, IsSolved, solved-means}
+use Rattle.search.proofs.Answers.{RefusalHas}
+use Rattle.kepler.proofs.Laws.{refusal-numbered, IsSolved, solved-means}
 use Rattle.card.specs.declared.Kind.the-variants as kind
 use Rattle.card.specs.Fields.{problemSize, spareSize, answerAt, problemOf, spareOf, xOf, refusalOf, lastSpareOf}
 use Rattle.card.specs.Made.{numbersBytes, problemBytes, spare, solvedNumbers, solvedBody, refusedBody, cardFor}
@@ -60,9 +62,9 @@ module _ (given : List ℕ) (sized : length given ≡ problemSize) where
   -- ---- the cards
 
   pub made-problem : (said : conic.Said) → problemOf (cardFor given said .body) ≡ problemOf given
-  made-problem (conic.solved x n state) = given-problem _
-  made-problem (conic.refused k n) = given-problem _
-  made-problem (conic.refusedWithBracket k n lo hi) = given-problem _
+  made-problem (answer.solved x n state) = given-problem _
+  made-problem (answer.refused k n) = given-problem _
+  made-problem (answer.refusedWithBracket k n lo hi) = given-problem _
 
   -- ---- a solved one
 
@@ -82,10 +84,11 @@ module _ (given : List ℕ) (sized : length given ≡ problemSize) where
   solved-made : (x : Float) (state : State) → IsSolved (problemOf given) x state → numberIn (verdictOn kind.Solved (solvedBody given x state)) ≡ 0
   solved-made x state s =
       let o = s .o in
-      let is = s .arrival .state-is in
+      let arrived = arrives o x state .0 (s .finding) in
+      let is = arrived .state-is in
       let w = answer-fits x state (s .in-start .0 .0) (subst StateFits is (state-fits o x)) in
       let same-x = x-read x state w in
-      let arrival : Arrives o x (stateAt o x) = subst (Arrives o x) (sym is) (s .arrival) in
+      let arrival : Arrives o x (stateAt o x) = subst (Arrives o x) (sym is) arrived in
       let state-bits : stateWords (solvedBody given x state) ≡ wordsOf (stateAt o x) = state-read x state w ∙ ap wordsOf (sym is) in
       ap numberIn (solved-passes (solvedBody given x state) o (s .start) (record {
         spare-is = spare-is _;
@@ -110,9 +113,9 @@ module _ (given : List ℕ) (sized : length given ≡ problemSize) where
   made-passes = go (keplerOf (problemOf given)) refl
     where
       go : (s : conic.Said) → keplerOf (problemOf given) ≡ s → numberIn (verdictOn (cardFor given s .kind) (cardFor given s .body)) ≡ 0
-      go (conic.solved x n state) e = solved-made x state (solved-means (problemOf given) x n state e)
-      go (conic.refused k n) e = refused-made k (subst RefusalNumbered e (refusal-numbered (problemOf given))) (rw e (is-true (eqb k k) (eqb-refl k)))
-      go (conic.refusedWithBracket k n lo hi) e = refused-made k (subst RefusalNumbered e (refusal-numbered (problemOf given))) (rw e (is-true (eqb k k) (eqb-refl k)))
+      go (answer.solved x n state) e = solved-made x state (solved-means (problemOf given) x n state e)
+      go (answer.refused k n) e = refused-made k (subst (RefusalHas Numbered) e (refusal-numbered (problemOf given))) (rw e (is-true (eqb k k) (eqb-refl k)))
+      go (answer.refusedWithBracket k n lo hi) e = refused-made k (subst (RefusalHas Numbered) e (refusal-numbered (problemOf given))) (rw e (is-true (eqb k k) (eqb-refl k)))
 
 -- ---- every problem can be written as bytes
 

@@ -12,6 +12,7 @@ use Rattle.vectors.specs.declared.Vector.{Vector}
 use Rattle.conic.specs.declared.State.{State}
 use Rattle.conic.specs.declared.Scaled.{Scaled}
 use Rattle.rows.specs.Rows.{Checked, pass, refuse, must, onward}
+use Rattle.search.specs.Answers as answer
 use Rattle.conic.specs.Said as conic
 use Rattle.conic.specs.TimeAndRatio.{timeAt}
 use Rattle.conic.specs.Unfolding.{arrivalAt}
@@ -56,9 +57,9 @@ solvedCard body =
 
 -- whether Kepler gives this number
 abbrev pub isRefusedWith : conic.Said → ℕ → Bool
-isRefusedWith (conic.solved x n state) k = false
-isRefusedWith (conic.refused why n) k = eqb why k
-isRefusedWith (conic.refusedWithBracket why n lo hi) k = eqb why k
+isRefusedWith (answer.solved x n state) k = false
+isRefusedWith (answer.refused why n) k = eqb why k
+isRefusedWith (answer.refusedWithBracket why n lo hi) k = eqb why k
 
 -- Verdicts 9 to 11: 23 for either spare; 24 where Kepler does not give the card's number; else accepted
 unfoldable pub refusedCard : List ℕ → Checked (Unit {0})

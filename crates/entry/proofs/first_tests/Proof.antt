@@ -6,7 +6,8 @@ use borrow.Author.Tests.{not-true, not-false}
 use lib.Ieee.{lt}
 use Rattle.exact.specs.Numbers.{nought}
 use Rattle.rows.specs.Rows.{must}
-use Rattle.entry.specs.Entry.{givenFinite, inputsTested}
+use Rattle.units.specs.Units.{givenFinite}
+use Rattle.entry.specs.Entry.{inputsTested}
 use Rattle.entry.proofs.first_tests.Statement.{statement}
 use Rattle.entry.proofs.first_tests.Tie as tie
 

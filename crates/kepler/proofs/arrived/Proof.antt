@@ -1,12 +1,10 @@
 -- `kepler::arrived` meets its contract: the arrival at x, with x and count.
 use mathlib.Core.Path.{refl, _∙_}
 use borrow.Author.Needs.{needs}
-use Rattle.kepler.specs.Kepler.{arrivedAt}
 use Rattle.kepler.proofs.arrived.Statement.{statement}
 use Rattle.kepler.proofs.arrived.Tie as tie
 
 returns : tie.Need-returns
-unfolding arrivedAt
 returns c = c .outcome-of .ensures ∙ rw (c .before .arrive-at .ensures) refl
 
 pub arrived-spec : {M : Type 1} → statement M

@@ -1,8 +1,8 @@
--- `entry::given` meets its contract: what the tests ensure, put together.
+-- `units::given` meets its contract: what the tests ensure, put together.
 use mathlib.Core.Path.{refl}
 use borrow.Author.Needs.{needs}
-use Rattle.entry.proofs.given.Statement.{statement}
-use Rattle.entry.proofs.given.Tie as tie
+use Rattle.units.proofs.given.Statement.{statement}
+use Rattle.units.proofs.given.Tie as tie
 
 returns : tie.Need-returns
 returns c = rw (c .before .before .before .finite .ensures, c .before .before .all-finite .ensures, c .before .all-finite2 .ensures, c .finite2 .ensures) refl

@@ -1,8 +1,8 @@
--- `entry::usable` meets its contract: what `finite` ensures, put in.
+-- `units::usable` meets its contract: what `finite` ensures, put in.
 use mathlib.Core.Path.{refl}
 use borrow.Author.Needs.{needs}
-use Rattle.entry.proofs.usable.Statement.{statement}
-use Rattle.entry.proofs.usable.Tie as tie
+use Rattle.units.proofs.usable.Statement.{statement}
+use Rattle.units.proofs.usable.Tie as tie
 
 returns : tie.Need-returns
 returns c = rw (c .finite .ensures) refl

@@ -1,0 +1,73 @@
+// The radius of a position and the unit of time, from which a state and a transfer are scaled.
+// docs/RULES.md, From the state to the scaled problem 1 to 3.
+//
+// Every public function is proved and total: its contract is an equation with a definition of
+// `specs/`, for every input, NaN and infinities included. The crate assumes nothing.
+use root::Answer;
+use vectors::Vector;
+ghost use mathlib.Core.Path.{_≡_};
+ghost use Rattle.units.specs.Units.{givenFinite, isUsable, radiusOf, unitOf};
+ghost use Rattle.units.specs.Said.{lengthSaid, unitSaid};
+
+// A radius; or it is not usable; or its root was refused.
+pub enum Length {
+    Measured(f64),
+    Unusable,
+    RootRefused,
+}
+
+// f1 and the time unit f4; or one on the way is not usable; or the root was refused.
+pub enum TimeUnit {
+    Measured(f64, f64),
+    Unusable,
+    RootRefused,
+}
+
+// Whether every number given is finite: mu, two vectors, and the time or the angle.
+pub fn given(mu: f64, a: Vector, b: Vector, last: f64) -> bool
+    ensures { λ x. ⌜ x ≡ givenFinite mu a b last ⌝ }
+{
+    exact::finite(mu) & vectors::all_finite(a) & vectors::all_finite(b) & exact::finite(last)
+}
+
+// Neither zero nor NaN nor infinite.
+fn usable(x: f64) -> bool
+    ensures { λ r. ⌜ r ≡ isUsable x ⌝ }
+{
+    exact::finite(x) & (x != 0.0)
+}
+
+// r0.
+pub fn radius(r: Vector) -> Length
+    ensures { λ x. ⌜ lengthSaid x ≡ radiusOf r ⌝ }
+{
+    let square = vectors::product(r, r);
+    if !usable(square) {
+        return Length::Unusable;
+    }
+    let Answer::Root(r0) = root::root(square) else {
+        return Length::RootRefused;
+    };
+    if !usable(r0) {
+        return Length::Unusable;
+    }
+    Length::Measured(r0)
+}
+
+// f1 and f4.
+pub fn time_unit(mu: f64, r0: f64) -> TimeUnit
+    ensures { λ x. ⌜ unitSaid x ≡ unitOf mu r0 ⌝ }
+{
+    let quotient = r0 / mu;
+    if !usable(quotient) {
+        return TimeUnit::Unusable;
+    }
+    let Answer::Root(f1) = root::root(quotient) else {
+        return TimeUnit::RootRefused;
+    };
+    let f4 = r0 * f1;
+    if !(usable(f1) & usable(f4)) {
+        return TimeUnit::Unusable;
+    }
+    TimeUnit::Measured(f1, f4)
+}
