@@ -1,6 +1,6 @@
-/* The three things that are measured: the proved functions of crates/linked, and bench/baseline.c in
- * its two builds. The types are made here, since where the kit's clang is the compiler no header of
- * C's is at hand. */
+/* The three things that are measured: the proved functions of crates/linked, and the same steps in C,
+ * bench/baseline.c and bench/transfer.c, in their two builds. The types are made here, since where the
+ * kit's clang is the compiler no header of C's is at hand. */
 #ifndef BASELINE_H
 #define BASELINE_H
 
@@ -9,13 +9,20 @@ typedef __UINT32_TYPE__ uint32_t;
 typedef __UINT64_TYPE__ uint64_t;
 typedef __SIZE_TYPE__ size_t;
 
-enum { PROBLEM_SIZE = 68, SOLVED_SIZE = 128, REFUSED_SIZE = 80, MOST_CARDS = 256 };
+enum { PROBLEM_SIZE = 68, TRANSFER_SIZE = 72, SOLVED_SIZE = 128, REFUSED_SIZE = 80, MOST_CARDS = 256 };
 
 /* Of a problem's bytes: 0, and in *sum x and the six numbers of the state added up; or the refusal's
  * number, and *sum is left alone. */
 uint32_t tailfiddle_predict(const uint8_t *problem, size_t length, double *sum);
 uint32_t digit_predict(const uint8_t *problem, double *sum);
 uint32_t hardware_predict(const uint8_t *problem, double *sum);
+
+/* Of a transfer's bytes: 0, and in *sum z and the three numbers of the velocity added up, z + vx + vy + vz
+ * from the left; or the refusal's number, and *sum is left alone. A way that is neither 0 nor 1: 23, before
+ * every other test. */
+uint32_t tailfiddle_transfer(const uint8_t *transfer, size_t length, double *sum);
+uint32_t digit_transfer(const uint8_t *transfer, double *sum);
+uint32_t hardware_transfer(const uint8_t *transfer, double *sum);
 
 /* Of a deck: the mean residual, NaN where no card is solved, or minus the refusal's number. */
 double tailfiddle_check(const uint8_t *deck, size_t length, uint32_t *verdicts, size_t room);

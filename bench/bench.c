@@ -1,28 +1,34 @@
-/* Times the proved functions and the two builds of bench/baseline.c on the same problems and the same
- * deck, and holds their answers, and the decks that they write, to each other bit by bit. Problems come
- * from standard input, and ROUNDS, how often each is timed, from whoever compiles it.
+/* Times the proved functions and the two builds of the same steps in C (baseline.h) on the same problems,
+ * the same transfers and the same deck, and holds their answers, and the decks that they write, to each
+ * other bit by bit. Problems and, behind them, transfers come from standard input, and ROUNDS, how often
+ * each is timed, from whoever compiles it.
  * Status: 0 all agree, 1 a difference, 2 something is missing. */
 #include "timing.h"
 
 /* Of the C library too. */
 void exit(int status) __attribute__((noreturn));
 
-enum { PROBLEMS = 20000, CHECKS = 20 };
+/* There are as many transfers as problems. */
+enum { PROBLEMS = 20000, TRANSFERS = PROBLEMS, CHECKS = 20 };
 enum { DECK_SIZE = 8 + 12 * MOST_CARDS + SOLVED_SIZE * MOST_CARDS };
 /* The problems of a full deck, and how many such decks the problems make. */
 enum { GROUP_SIZE = MOST_CARDS * PROBLEM_SIZE, GROUPS = PROBLEMS / MOST_CARDS };
 /* GROUPED is predict once more, of the problems that are written and no others. */
-enum { PREDICT, CHECK, GROUPED, WRITE, KINDS };
+enum { PREDICT, TRANSFER, CHECK, GROUPED, WRITE, KINDS };
 /* What every byte of a buffer is, and a size, before a deck is written. */
 enum { BEFORE = 0xa5 };
 
+/* What answers a problem or a transfer, and its answers to all of them. */
+typedef uint32_t Answer(const uint8_t *record, double *sum);
+typedef struct { uint32_t refusals[PROBLEMS]; double sums[PROBLEMS]; } Answers;
+
 typedef struct {
     const char *name;
-    uint32_t (*predict)(const uint8_t *problem, double *sum);
+    Answer *predict, *transfer;
     double (*check)(const uint8_t *deck, size_t length, uint32_t *verdicts, size_t room);
     uint32_t (*write)(const uint8_t *problems, size_t length, uint8_t *buffer, size_t room, size_t *size);
-    uint32_t refusals[PROBLEMS];
-    double sums[PROBLEMS], mean;
+    Answers predicted, transferred;
+    double mean;
     uint8_t buffer[DECK_SIZE];
     size_t size;
     double times[KINDS][ROUNDS];
@@ -33,15 +39,24 @@ static uint32_t proved_predict(const uint8_t *problem, double *sum)
     return tailfiddle_predict(problem, PROBLEM_SIZE, sum);
 }
 
+static uint32_t proved_transfer(const uint8_t *transfer, double *sum)
+{
+    return tailfiddle_transfer(transfer, TRANSFER_SIZE, sum);
+}
+
 static Contender contenders[] = {
-    { .name = "proved", .predict = proved_predict, .check = tailfiddle_check, .write = tailfiddle_write },
-    { .name = "C, digit root", .predict = digit_predict, .check = digit_check, .write = digit_write },
-    { .name = "C, hardware root", .predict = hardware_predict, .check = hardware_check, .write = hardware_write },
+    { .name = "proved", .predict = proved_predict, .transfer = proved_transfer,
+        .check = tailfiddle_check, .write = tailfiddle_write },
+    { .name = "C, digit root", .predict = digit_predict, .transfer = digit_transfer,
+        .check = digit_check, .write = digit_write },
+    { .name = "C, hardware root", .predict = hardware_predict, .transfer = hardware_transfer,
+        .check = hardware_check, .write = hardware_write },
 };
 
 enum { CONTENDERS = sizeof contenders / sizeof contenders[0] };
 
 static uint8_t problems[PROBLEMS * PROBLEM_SIZE];
+static uint8_t transfers[TRANSFERS * TRANSFER_SIZE];
 static uint8_t chosen[GROUP_SIZE];
 static uint8_t deck[DECK_SIZE];
 
@@ -69,11 +84,14 @@ static double median(const double *times, const double *others)
     return kept[ROUNDS / 2];
 }
 
-static void read_problems(void)
+static void read_inputs(void)
 {
     size_t size = read_full(problems, sizeof problems);
     if (size != sizeof problems)
         fail(2, "20000 problems are wanted, and there are", size / PROBLEM_SIZE);
+    size = read_full(transfers, sizeof transfers);
+    if (size != sizeof transfers)
+        fail(2, "20000 transfers are wanted behind the problems, and there are", size / TRANSFER_SIZE);
 }
 
 /* A full deck of the first problems that are solved. Gives how many are solved in all. */
@@ -96,12 +114,22 @@ static size_t make_deck(void)
     return solved;
 }
 
-static double time_predict(Contender *c, size_t count)
+static double time_answers(Answer *answer, const uint8_t *records, size_t size, size_t count, Answers *into)
 {
     double began = seconds();
     for (size_t i = 0; i < count; i++)
-        c->refusals[i] = c->predict(problems + i * PROBLEM_SIZE, &c->sums[i]);
+        into->refusals[i] = answer(records + i * size, &into->sums[i]);
     return (seconds() - began) / count;
+}
+
+static double time_predict(Contender *c, size_t count)
+{
+    return time_answers(c->predict, problems, PROBLEM_SIZE, count, &c->predicted);
+}
+
+static double time_transfer(Contender *c)
+{
+    return time_answers(c->transfer, transfers, TRANSFER_SIZE, TRANSFERS, &c->transferred);
 }
 
 static double time_check(Contender *c)
@@ -130,13 +158,27 @@ static double time_write(Contender *c)
     return took / (GROUPS * MOST_CARDS);
 }
 
-static void compare_answers(const Contender *a, const Contender *b)
+static void compare_each(const Answers *a, const Answers *b, const char *why)
 {
     for (size_t i = 0; i < PROBLEMS; i++)
         if (a->refusals[i] != b->refusals[i] || !same(a->sums[i], b->sums[i]))
-            fail(1, "the answers differ at problem", i + 1);
+            fail(1, why, i + 1);
+}
+
+static void compare_answers(const Contender *a, const Contender *b)
+{
+    compare_each(&a->predicted, &b->predicted, "the answers differ at problem");
+    compare_each(&a->transferred, &b->transferred, "the answers differ at transfer");
     if (!same(a->mean, b->mean))
         fail(1, "the means differ, of cards in the deck:", MOST_CARDS);
+}
+
+static size_t solved_in(const Answers *a)
+{
+    size_t solved = 0;
+    for (size_t i = 0; i < PROBLEMS; i++)
+        solved += a->refusals[i] == 0;
+    return solved;
 }
 
 static uint32_t write_anew(Contender *c, const uint8_t *from, size_t length, size_t room)
@@ -199,10 +241,21 @@ static void print_times(const char *what, int kind)
     }
 }
 
+/* What the proved code takes beside the C: for transfers, and for problems in the same run. */
+static void print_transfer_ratios(void)
+{
+    const Contender *proved = &contenders[0];
+    for (int k = 1; k < CONTENDERS; k++) {
+        const Contender *c = &contenders[k];
+        printf("  %-18s proved / this: transfer %.3f, predict %.3f; at most predict's is wanted\n", c->name,
+            median(proved->times[TRANSFER], c->times[TRANSFER]), median(proved->times[PREDICT], c->times[PREDICT]));
+    }
+}
+
 static double write_ratio(const Contender *c) { return median(c->times[WRITE], c->times[GROUPED]); }
 
 /* What writing takes beside predicting the same problems: of the proved functions, and of the C. */
-static void print_ratios(void)
+static void print_write_ratios(void)
 {
     printf("write / predict %.3f, at most 1.1 is wanted\n", write_ratio(&contenders[0]));
     for (int k = 1; k < CONTENDERS; k++)
@@ -214,6 +267,8 @@ static void time_all(int round)
     for (int k = 0; k < CONTENDERS; k++)
         contenders[k].times[PREDICT][round] = time_predict(&contenders[k], PROBLEMS);
     for (int k = 0; k < CONTENDERS; k++)
+        contenders[k].times[TRANSFER][round] = time_transfer(&contenders[k]);
+    for (int k = 0; k < CONTENDERS; k++)
         contenders[k].times[CHECK][round] = time_check(&contenders[k]);
     for (int k = 0; k < CONTENDERS; k++) {
         contenders[k].times[GROUPED][round] = time_predict(&contenders[k], GROUPS * MOST_CARDS);
@@ -223,19 +278,22 @@ static void time_all(int round)
 
 int main(void)
 {
-    read_problems();
+    read_inputs();
     size_t solved = make_deck();
     for (int round = 0; round < ROUNDS; round++)
         time_all(round);
     for (int k = 1; k < CONTENDERS; k++)
         compare_answers(&contenders[0], &contenders[k]);
     compare_writing();
-    printf("%d problems, %lu of them solved, a deck of %d solved cards, %d decks written: the three agree on all\n",
-        PROBLEMS, (unsigned long)solved, MOST_CARDS, GROUPS);
+    printf("%d problems, %lu of them solved, %d transfers, %lu of them solved, ",
+        PROBLEMS, (unsigned long)solved, TRANSFERS, (unsigned long)solved_in(&contenders[0].transferred));
+    printf("a deck of %d solved cards, %d decks written: the three agree on all\n", MOST_CARDS, GROUPS);
     printf("rounds: %d; each figure is a median\n", ROUNDS);
     print_times("predict, time per problem", PREDICT);
+    print_times("transfer, time per transfer", TRANSFER);
+    print_transfer_ratios();
     print_times("check, time per card", CHECK);
     print_times("write, time per problem, 256 in a deck", WRITE);
-    print_ratios();
+    print_write_ratios();
     return 0;
 }

@@ -1,4 +1,4 @@
-"""What `predict`, `turn` and `root` share: numbers or '-' in, the program's lines out.
+"""What `predict`, `turn`, `transfer` and `root` share: numbers or '-' in, the program's lines out.
 
 With numbers, the same in decimals stands below or behind the program's line. With '-' the lines are
 passed on as they are and as they come; a line that is cut off is not passed on. Status 0 where every
@@ -10,43 +10,56 @@ from __future__ import annotations
 from front import built, kit, page, streams, words
 from front.streams import Stop
 
+TYPE_CHECKING = False
+if TYPE_CHECKING:
+    from typing import Callable, Optional
 
-def answer(command: str, name: str, texts: list[str], whole_place: int = -1) -> int:
-    """Answers with the program of that name."""
+    # What a record is made of texts with, and what makes rows of a record and the program's line for it.
+    Pack = Callable[[list[str]], bytes]
+    More = Optional[Callable[[bytes, str], list[str]]]
+
+
+def answer(command: str, name: str, texts: list[str], pack: Pack = words.packed, more: More = None) -> int:
+    """Answers with the program of that name. `more` gives the rows that follow those of a line."""
     streams.need_output(command)
     if texts == ["-"]:
         source = streams.open_input(command, "-")
         return answer_input(command, name, source)
     try:
-        record = words.packed(texts, whole_place)
+        record = pack(texts)
     except words.Wrong as wrong:
         raise Stop(f"{command}: {wrong}; './tailfiddle help' tells more") from None
-    return answer_record(command, name, record)
+    return answer_record(command, name, record, more)
 
 
-def given(command: str, count: int, texts: list[str]) -> None:
-    """Sees to it that so many numbers are given, or '-'."""
+def given(command: str, count: int, texts: list[str], what: str = "") -> None:
+    """Sees to it that so many words are given, or '-'. `what` says which, where not all are numbers."""
     if texts != ["-"] and len(texts) != count:
-        raise Stop(
-            f"{command} takes {count} numbers, or '-', and {len(texts)} were given; './tailfiddle help' shows which"
-        )
+        wanted = what or f"{count} numbers"
+        raise Stop(f"{command} takes {wanted}, or '-', and {len(texts)} were given; './tailfiddle help' shows which")
 
 
 # ---- numbers
 
 
-def answer_record(command: str, name: str, record: bytes) -> int:
+def answer_record(command: str, name: str, record: bytes, more: More = None) -> int:
     """The program's lines, with what is added for people."""
     program = built.ready(name)
     running = kit.Running(program, [record], quiet=True)
     output = b"".join(streams.blocks(running.output))
     ended, _ = running.end()
     *lines, cut = output.decode("ascii", "replace").split("\n")
-    shown = "".join(f"{row}\n" for line in lines for row in explained(command, line))
-    streams.show(shown, unwritten(command))
+    show(command, [row for line in lines for row in explained(command, line)])
     if cut or not ended:
         raise kit.failed(program)
+    if more:
+        show(command, [row for line in lines for row in more(record, line)])
     return 1 if others(output) else 0
+
+
+def show(command: str, rows: list[str]) -> None:
+    """Prints the rows."""
+    streams.show("".join(f"{row}\n" for row in rows), unwritten(command))
 
 
 def explained(command: str, line: str) -> list[str]:
@@ -55,21 +68,27 @@ def explained(command: str, line: str) -> list[str]:
     if command == "root":
         return [f"{line} {decimal(rest[0])}" if first == "root" else line]
     if first == "solved":
-        return [line, *solved_rows("angle" if command == "turn" else "x", rest)]
+        return [line, *(found_rows(rest) if command == "transfer" else solved_rows(command, rest))]
     if first == "refused":
         return [line, *refused_rows(rest)]
     return [line]
 
 
-def solved_rows(unknown: str, rest: list[str]) -> list[str]:
-    """Below a line with `solved`: guesses, x or angle, position, velocity."""
+def solved_rows(command: str, rest: list[str]) -> list[str]:
+    """Below a prediction's line with `solved`: guesses, x or angle, position, velocity."""
     numbers = [decimal(word) for word in rest[1:]]
     return [
         *guesses(rest[0]),
-        row(unknown, numbers[0]),
+        row("angle" if command == "turn" else "x", numbers[0]),
         row("position", " ".join(numbers[1:4])),
         row("velocity", " ".join(numbers[4:7])),
     ]
+
+
+def found_rows(rest: list[str]) -> list[str]:
+    """Below a transfer's line with `solved`: guesses, z, velocity."""
+    z, *velocity = [decimal(word) for word in rest[1:]]
+    return [*guesses(rest[0]), row("z", z), row("velocity", " ".join(velocity) + " km/s")]
 
 
 def refused_rows(rest: list[str]) -> list[str]:

@@ -9,8 +9,9 @@ from front import streams
 TEXT = """\
 usage: ./tailfiddle predict MU RX RY RZ VX VY VZ DT LIMIT   the state after DT seconds
        ./tailfiddle turn MU RX RY RZ VX VY VZ A             the state through an angle of A radians
+       ./tailfiddle transfer MU R1 R2 DT LIMIT short|long   the velocity from R1 to R2 in DT seconds
        ./tailfiddle root NUMBER...                          the number nearest each square root
-       ./tailfiddle predict|turn|root -                     the same for inputs on standard input
+       ./tailfiddle predict|turn|transfer|root -            the same for inputs on standard input
        ./tailfiddle write PROBLEMS OUT                      a deck of cards from a text file
        ./tailfiddle check FILE                              the verdicts on a deck of cards
        ./tailfiddle show FILE                               the cards of a deck, in decimals
@@ -23,7 +24,10 @@ usage: ./tailfiddle predict MU RX RY RZ VX VY VZ DT LIMIT   the state after DT s
 MU is in km^3/s^2, R in km, V in km/s. Each of them, DT, A and root's NUMBER is a decimal (2, -1,
 0.1, 1e-300, -0, inf, nan), taken as the nearest binary64 number (beyond the largest one: infinity),
 or 0x and the 16 hex digits of a word (0x4000000000000000). LIMIT, the most guesses that are made,
-is a whole number, 0 to 4294967295; predict refuses all but 1 to 100.
+is a whole number, 0 to 4294967295; predict and transfer refuse all but 1 to 100. R1 and R2 are
+positions of three numbers each, X Y Z, so that transfer takes 10 words. The last is the way:
+'short' is through the angle between R1 and R2 that is below 180 degrees, 'long' through the rest of
+the turn, round the centre in the other sense.
 
 The program's own line comes first: 'solved', the guesses made, x (of turn the angle), position
 and velocity, as words in hex; or 'refused', the reason's number, the guesses made and, with 9 and
@@ -31,8 +35,14 @@ and velocity, as words in hex; or 'refused', the reason's number, the guesses ma
 tells more of it. root gives one line for each NUMBER: 'root', the word and its decimal value, or
 'refused' and the reason: 1, it is infinite or not a number; 13, it is below zero.
 
-Inputs for '-' are little-endian: the words in the order above, then LIMIT in 4 bytes; as many as
-come. The lines are the program's own, and 'short' ends them where an input is cut off.
+A transfer's line has z in the place of x, and then the velocity at R1 alone. Below it stands the
+arrival too: the state to which predict comes from R1 with this velocity after DT, and how far that
+is from R2, in three digits; or why predict refuses it. predict gets 100 as its limit, whatever
+LIMIT is. The status is that of the transfer.
+
+Inputs for '-' are little-endian: the words in the order above, then LIMIT in 4 bytes, and for
+transfer the way in 4 bytes, 0 for short and 1 for long; as many as come. The lines are the
+program's own, and the line 'short' ends them where an input is cut off.
 
 write takes a problem a line: MU RX RY RZ VX VY VZ DT LIMIT, with blanks between them. What stands
 behind a # is a comment, and lines without a problem are passed over. Each problem is predicted, and
@@ -51,7 +61,7 @@ show prints for each card its place, kind and verdict, the problem and the answe
 few digits as read back as the same number; then the totals. The verdicts are check's. Of a deck
 that is refused it says why, and prints nothing. With --problems it prints a line for each card, in
 17 digits, that write reads back to the bit: of a deck that write has written, write makes the same
-bytes again.
+bytes again. write takes no transfers: they are left out, and it says on standard error how many.
 
 why prints what docs/REFUSALS.md says of the NUMBER of a refusal or verdict, written as in the lines
 above: 22, and not 022. Without a NUMBER it prints each that there is, and in short what it means.
@@ -64,7 +74,7 @@ Status: 0 every answer is solved or a root, every card that is written is solved
 deck is rejected, why has an entry;
 1 an answer, the deck or a card was refused or rejected, or the lines end with 'short';
 2 wrong usage, or something is missing or fails: a closed input, a read, a write, a program. What
-predict, turn or root had printed is then not all.
+predict, turn, transfer or root had printed is then not all.
 """
 
 

@@ -5,6 +5,9 @@ The verdicts are the program's; the front adds nothing to them and leaves nothin
 
 from __future__ import annotations
 
+# The word that stands in a card's line, for each kind of card.
+KIND_WORDS = {"solved": "solved", "refused": "refused", "transfer": "solved"}
+
 
 class Listing:
     """What a listing says: the deck's refusal, or each card's kind and verdict, and the totals."""
@@ -39,7 +42,7 @@ def read(text: bytes) -> Listing:
 def read_card(place: int, line: str) -> tuple[str, int]:
     """The kind and the verdict in the line of the card at a place."""
     card, at, kind, verdict = line.split(" ")
-    if card != "card" or number(at) != place or kind not in ("solved", "refused"):
+    if card != "card" or number(at) != place or kind not in KIND_WORDS.values():
         raise ValueError(f"'{line}' is not the line of card {place}")
     return kind, number(verdict)
 

@@ -8,4 +8,4 @@ from front import answers, words
 def run(texts: list[str]) -> int:
     """Nine numbers, or '-'."""
     answers.given("predict", len(words.PROBLEM_NAMES), texts)
-    return answers.answer("predict", "predict", texts, words.LIMIT_PLACE)
+    return answers.answer("predict", "predict", texts, words.problem)

@@ -2,7 +2,8 @@
 
 The verdicts are those of `check_deck`; a deck that it refuses is not shown. The numbers are the fields
 of the cards' bytes, in as few digits as read back as the same word. With --problems the problems
-alone are printed, as lines that `write` takes. Two cards are shown so:
+alone are printed, as lines that `write` takes; a transfer is no such problem and is left out. Three
+cards are shown so:
 
     card 1: solved; accepted
       problem  mu        398600.4418 km^3/s^2
@@ -22,16 +23,28 @@ alone are printed, as lines that `write` takes. Two cards are shown so:
                limit     20
       answer   refusal   7: a straight line
 
-    2 cards: 1 solved, 0 refused, 1 rejected
+    card 3: solved transfer; accepted
+      problem  mu        398600.4418 km^3/s^2
+               start     7000 0 0 km
+               goal      0 8000 1000 km
+               time      1800 s
+               limit     100
+               way       short
+      answer   z         3.0902333042582892
+               velocity  1.186044512683371 7.38665218685074 0.9233315233563425 km/s
+
+    3 cards: 2 solved, 0 refused, 1 rejected
 """
 
 from __future__ import annotations
 
 from front import check, page, problems, streams, words
-from front.listing import Listing
+from front.listing import KIND_WORDS, Listing
 from front.streams import Stop
 
 PROBLEMS = "--problems"
+# What a card is called, by its kind.
+TITLES = {"solved": "solved", "refused": "refused", "transfer": "solved transfer"}
 
 
 def run(texts: list[str]) -> int:
@@ -46,9 +59,25 @@ def run(texts: list[str]) -> int:
         streams.say(f"the deck is refused with {page.explained(said.refusal)}")
         return said.status()
     cards = cards_of(deck, said)
-    text = shown(cards, said) if files == texts else "".join(f"{problems.line_of(card)}\n" for card in cards)
-    streams.show(text, "show: the cards could not be written; what was printed is not all")
+    if files == texts:
+        show_text(shown(cards, said))
+    else:
+        show_problems(cards)
     return said.status()
+
+
+def show_text(text: str) -> None:
+    """Prints it."""
+    streams.show(text, "show: the cards could not be written; what was printed is not all")
+
+
+def show_problems(cards: list[words.Card]) -> None:
+    """The problems alone. A transfer is none that `write` takes; it is said how many are left out."""
+    taken = [card for card in cards if card.kind != "transfer"]
+    show_text("".join(f"{problems.line_of(card)}\n" for card in taken))
+    left = len(cards) - len(taken)
+    if left:
+        streams.say(f"{streams.counted(left, 'transfer')} left out: write takes none; './tailfiddle show' shows them")
 
 
 def cards_of(deck: bytes, said: Listing) -> list[words.Card]:
@@ -57,7 +86,7 @@ def cards_of(deck: bytes, said: Listing) -> list[words.Card]:
         cards = words.cards(deck)
     except ValueError:
         cards = []
-    if [card.kind for card in cards] != [kind for kind, _ in said.cards]:
+    if [KIND_WORDS[card.kind] for card in cards] != [word for word, _ in said.cards]:
         raise Stop(f"the program {check.PROGRAM} printed a listing that is not this deck's")
     return cards
 
@@ -73,8 +102,9 @@ def shown(cards: list[words.Card], said: Listing) -> str:
 def card_text(place: int, card: words.Card, verdict: int) -> str:
     """A card: its place, kind and verdict, then its fields."""
     judged = f"rejected with {verdict}: {page.reason(verdict)}" if verdict else "accepted"
-    rows = [*rows_of("problem", problem_fields(card)), *rows_of("answer", answer_fields(card))]
-    return "".join(f"{line}\n" for line in [f"card {place}: {card.kind}; {judged}", *rows])
+    given = transfer_fields(card) if card.kind == "transfer" else problem_fields(card)
+    rows = [*rows_of("problem", given), *rows_of("answer", answer_fields(card))]
+    return "".join(f"{line}\n" for line in [f"card {place}: {TITLES[card.kind]}; {judged}", *rows])
 
 
 def rows_of(part: str, fields: list[tuple[str, str]]) -> list[str]:
@@ -94,11 +124,28 @@ def problem_fields(card: words.Card) -> list[tuple[str, str]]:
     ]
 
 
+def transfer_fields(card: words.Card) -> list[tuple[str, str]]:
+    """What a transfer was asked for, with its units: r1 is the start and r2 the goal."""
+    mu, *ends, dt = card.numbers
+    return [
+        ("mu", f"{words.shortest(mu)} km^3/s^2"),
+        ("start", triple(ends[:3], "km")),
+        ("goal", triple(ends[3:], "km")),
+        ("time", f"{words.shortest(dt)} s"),
+        ("limit", str(card.limit)),
+        ("way", words.way_text(card.way)),
+    ]
+
+
 def answer_fields(card: words.Card) -> list[tuple[str, str]]:
-    """The answer: x, which has no unit, and the state; or the refusal, and its spare where it is not 0."""
+    """The answer: x or z, which has no unit, and the state or the velocity; or the refusal, and its
+    spare where it is not 0."""
     if card.kind == "solved":
         x, *state = card.answer
         return [("x", words.shortest(x)), *state_fields(state)]
+    if card.kind == "transfer":
+        z, *velocity = card.answer
+        return [("z", words.shortest(z)), ("velocity", triple(velocity, "km/s"))]
     return [("refusal", refusal_text(card.refusal)), *spare_fields(card.spares[1:])]
 
 
@@ -109,8 +156,12 @@ def refusal_text(number: int) -> str:
 
 def state_fields(state: list[int]) -> list[tuple[str, str]]:
     """A position and a velocity."""
-    numbers = [words.shortest(word) for word in state]
-    return [("position", " ".join(numbers[:3]) + " km"), ("velocity", " ".join(numbers[3:]) + " km/s")]
+    return [("position", triple(state[:3], "km")), ("velocity", triple(state[3:], "km/s"))]
+
+
+def triple(numbers: list[int], unit: str) -> str:
+    """Three numbers and their unit."""
+    return " ".join([*map(words.shortest, numbers), unit])
 
 
 def spare_fields(spares: list[int]) -> list[tuple[str, str]]:

@@ -19,20 +19,28 @@ MOST_WHOLE = (1 << 32) - 1
 PROBLEM_NAMES = ("MU", "RX", "RY", "RZ", "VX", "VY", "VZ", "DT", "LIMIT")
 LIMIT_PLACE = PROBLEM_NAMES.index("LIMIT")
 PROBLEM = struct.Struct("<8QI")
+MOST_LIMIT = 100
 
-# A deck: its header, an entry for each card, the cards' bodies.
+# A transfer, as `transfer` reads it: it has R1 and R2 where a problem has R and V, and the way behind.
+TRANSFER_NAMES = ("MU", "X1", "Y1", "Z1", "X2", "Y2", "Z2", "DT", "LIMIT", "WAY")
+TRANSFER = struct.Struct("<8QII")
+WAYS = ("short", "long")  # 0 and 1
+
+# A deck: its header, an entry for each card, the cards' bodies. A body is what was given, and an answer.
 HEADER = struct.Struct("<II")  # version, count
 ENTRY = struct.Struct("<III")  # kind, offset, length
-SPARE = struct.Struct("<I")
-ANSWER = struct.Struct("<7Q")  # x, position, velocity
-REFUSAL = struct.Struct("<II")  # the refusal's number, spare
-KINDS = {1: "solved", 2: "refused"}
-ANSWER_AT = PROBLEM.size + SPARE.size
-SIZES = {"solved": ANSWER_AT + ANSWER.size, "refused": ANSWER_AT + REFUSAL.size}
+KINDS = {1: "solved", 2: "refused", 3: "transfer"}
+GIVEN = TRANSFER  # or a problem, with a spare where a transfer has its way
+ANSWERS = {
+    "solved": struct.Struct("<7Q"),  # x, position, velocity
+    "refused": struct.Struct("<II"),  # the refusal's number, spare
+    "transfer": struct.Struct("<4Q"),  # z, velocity
+}
+SIZES = {kind: GIVEN.size + answer.size for kind, answer in ANSWERS.items()}
 # The numbers with which a prediction after a time can be refused.
 REFUSALS = frozenset((1, 2, 3, 5, 6, 7, 8, 9, 10, 11, 14))
 MOST_CARDS = 256
-MOST_DECK = HEADER.size + MOST_CARDS * (ENTRY.size + SIZES["solved"])
+MOST_DECK = HEADER.size + MOST_CARDS * (ENTRY.size + max(SIZES.values()))
 
 
 class Wrong(ValueError):
@@ -69,6 +77,18 @@ def whole(text: str) -> int:
     if text.isascii() and text.isdigit() and len(digits) <= 10 and int(digits or "0") <= MOST_WHOLE:
         return int(digits or "0")
     raise Wrong(f"'{text}' is not a whole number from 0 to {MOST_WHOLE}, as LIMIT must be")
+
+
+def way(text: str) -> int:
+    """The number of a way as people write it."""
+    if text not in WAYS:
+        raise Wrong(f"'{text}' is not a way: the last word must be short or long")
+    return WAYS.index(text)
+
+
+def way_text(number: int) -> str:
+    """A way in a word, or the number where it is none."""
+    return WAYS[number] if number < len(WAYS) else str(number)
 
 
 def word_of(value: float) -> int:
@@ -115,23 +135,35 @@ def packed(texts: list[str], whole_place: int = -1) -> bytes:
     return b"".join(field(text, place == whole_place) for place, text in enumerate(texts))
 
 
+def problem(texts: list[str]) -> bytes:
+    """The record of a problem, from the texts that PROBLEM_NAMES names."""
+    return packed(texts, LIMIT_PLACE)
+
+
+def transfer(texts: list[str]) -> bytes:
+    """The record of a transfer, from the texts that TRANSFER_NAMES names."""
+    *numbers, last = texts
+    return packed(numbers, LIMIT_PLACE) + struct.pack("<I", way(last))
+
+
 # ---- decks
 
 
 class Card:
-    """The fields of a card, as they stand in its bytes. Where it is refused there is no answer."""
+    """The fields of a card, as they stand in its bytes. Where it is refused there is no answer; a
+    transfer alone has a way, and it has no spare."""
 
     def __init__(self, kind: str, body: bytes) -> None:
         self.kind = kind
-        *self.numbers, self.limit = PROBLEM.unpack_from(body)
-        self.spares = [SPARE.unpack_from(body, PROBLEM.size)[0]]
-        self.answer: tuple[int, ...] = ()
+        *self.numbers, self.limit, last = GIVEN.unpack_from(body)
+        self.way = last if kind == "transfer" else None
+        self.spares = [] if kind == "transfer" else [last]
+        self.answer: tuple[int, ...] = ANSWERS[kind].unpack_from(body, GIVEN.size)
         self.refusal = 0
-        if kind == "solved":
-            self.answer = ANSWER.unpack_from(body, ANSWER_AT)
-        else:
-            self.refusal, spare = REFUSAL.unpack_from(body, ANSWER_AT)
+        if kind == "refused":
+            self.refusal, spare = self.answer
             self.spares.append(spare)
+            self.answer = ()
 
 
 def cards(deck: bytes) -> list[Card]:

@@ -11,16 +11,20 @@ suites=(
 refused 7: 20, refused 8: 20, refused 9: 20, refused 10: 20, refused 11: 20, solved: 10000"
     "turn 64 10000 refused 1: 20, refused 2: 20, refused 4: 20, refused 5: 20, refused 6: 20, \
 refused 7: 20, refused 11: 20, refused 12: 20, solved: 5000"
+    "transfer 72 20000 refused 1: 20, refused 2: 20, refused 3: 20, refused 5: 20, refused 6: 20, refused 9: 20, \
+refused 10: 20, refused 23: 20, refused 50: 20, refused 51: 20, refused 52: 20, solved: 10000"
     "check_deck .deck 3000 solved 0: 10000, solved 1: 20, solved 2: 20, solved 3: 20, solved 5: 20, \
 solved 6: 20, solved 7: 20, solved 8: 20, solved 11: 20, solved 20: 20, solved 21: 20, solved 22: 20, \
 solved 23: 20, refused 0: 5000, refused 23: 20, refused 24: 20, deck 30: 20, deck 31: 20, deck 32: 20, \
-deck 33: 20, deck 34: 20, deck 35: 20, deck 36: 20, deck 37: 20, deck 38: 20"
+deck 33: 20, deck 34: 20, deck 35: 20, deck 36: 20, deck 37: 20, deck 38: 20, transfer 0: 500, transfer 1: 20, \
+transfer 2: 20, transfer 3: 20, transfer 5: 20, transfer 6: 20, transfer 20: 20, transfer 21: 20, transfer 22: 20, \
+transfer 23: 20, transfer 50: 20, transfer 51: 20, transfer 52: 20, with transfer: 400"
     "write_deck .problems 500 written: 500, solved: 3000, refused 1: 100, refused 2: 100, refused 3: 100, refused 5: 50, \
 refused 6: 50, refused 7: 50, refused 8: 50, refused 9: 32, refused 10: 50, refused 11: 50, deck 40: 10, \
 deck 46: 100, cards 0: 4, cards 1: 100, cards 2: 4, cards 255: 3, cards 256: 6, cards between: 100"
     "copy_deck .deck 600 same: 500, cleared: 60, deck 30: 8, deck 31: 2, deck 32: 2, deck 33: 2, deck 34: 2, \
 deck 35: 2, deck 36: 2, deck 37: 2, deck 38: 2, cards 0: 2, cards 1: 2, cards 2: 2, cards 255: 1, \
-cards 256: 2, cards between: 400"
+cards 256: 2, cards between: 400, with transfer: 60"
 )
 
 independent=independent/target/release/independent
@@ -230,6 +234,36 @@ accepted() { # PROBLEMS DECKS
 # Whether a listing is one of COUNT cards with the verdict 0: before its last three lines stands nothing else.
 all_accepted() { # COUNT LISTING
     awk -v count="$1" '/^card [0-9]+ (solved|refused) 0$/ { good++ } END { exit !(good + 0 == count && NR == count + 3) }' "$2"
+}
+
+# The test by physics: transfers are solved, Kepler is set off with each velocity that was found, and its
+# positions are held to those that the transfers were to reach. A RUN is a command, in words, that reads
+# records and prints a line for each, as './tailfiddle run transfer'. SCRATCH is a folder, made anew. Says
+# what came of it; status 1 where an arrival is too far off, goes by the other way or there are too few, or
+# where the lines are not such as a program prints; 2 where a program failed.
+arrivals() { # RUN_TRANSFER RUN_PREDICT SCRATCH
+    local transfer predict folder=$3 status=0
+    read -ra transfer <<<"$1"
+    read -ra predict <<<"$2"
+    if ! { rm -rf "$folder" && mkdir "$folder" && "$independent" transfer arcs >"$folder/records"; }; then
+        echo "arrivals: the independent program made no transfers"
+        return 2
+    fi
+    if ! "${transfer[@]}" <"$folder/records" >"$folder/lines"; then
+        echo "arrivals: $1 failed"
+        return 2
+    fi
+    if ! "$independent" transfer departures "$folder/records" "$folder/lines" >"$folder/problems" 2>"$folder/said"; then
+        echo "arrivals: $(cat "$folder/said")"
+        return 1
+    fi
+    if ! "${predict[@]}" <"$folder/problems" >"$folder/outcomes"; then
+        echo "arrivals: $2 failed"
+        return 2
+    fi
+    "$independent" transfer arrivals "$folder/records" "$folder/lines" "$folder/outcomes" >"$folder/said" 2>&1 || status=1
+    sed 's/^/arrivals: /' "$folder/said"
+    return "$status"
 }
 
 # Prints what compare has added to KINDS, a line for each kind: 'refused 9: 78'.

@@ -1,11 +1,12 @@
 """What the commands print, as far as no program is needed for it."""
 
 import os
+import tempfile
 import unittest
 from unittest import mock
 
 from front import answers, commands, listing, show, streams, words
-from front.tests.test_words import PROBLEM, REFUSED, SOLVED, deck_of
+from front.tests.test_words import PROBLEM, REFUSED, SOLVED, TRANSFER, deck_of
 
 SHOWN = """\
 card 1: solved; accepted
@@ -18,7 +19,7 @@ card 1: solved; accepted
            position  0.1 2 3 km
            velocity  4 5 6 km/s
 
-card 2: refused; rejected with 23: a spare is not 0
+card 2: refused; rejected with 23: a spare is not 0, or a way neither 0 nor 1
   problem  mu        398600.4418 km^3/s^2
            position  7000 0 0 km
            velocity  0 7.5 1 km/s
@@ -30,6 +31,27 @@ card 2: refused; rejected with 23: a spare is not 0
 
 2 cards: 1 solved, 0 refused, 1 rejected
 """
+SHOWN_TRANSFER = """\
+card 1: solved transfer; accepted
+  problem  mu        398600.4418 km^3/s^2
+           start     7000 0 0 km
+           goal      0 8000 1000 km
+           time      1800 s
+           limit     100
+           way       long
+  answer   z         3.5
+           velocity  1.25 7.5 1 km/s
+
+1 card: 1 solved, 0 refused, 0 rejected
+"""
+LISTING = b"""\
+card 1 solved 0
+card 2 solved 0
+card 3 refused 0
+solved 2 refused 1 rejected 0
+mean 0000000000000000
+worst 0000000000000000
+"""
 
 
 class Show(unittest.TestCase):
@@ -38,6 +60,17 @@ class Show(unittest.TestCase):
     def test_two_cards(self):
         said = listing.Listing(None, [("solved", 0), ("refused", 23)], [1, 0, 1])
         self.assertEqual(show.shown(words.cards(deck_of(SOLVED, REFUSED)), said), SHOWN)
+
+    def test_a_transfer(self):
+        said = listing.Listing(None, [("solved", 0)], [1, 0, 0])
+        self.assertEqual(show.shown(words.cards(deck_of(TRANSFER)), said), SHOWN_TRANSFER)
+
+    def test_ways_of_a_transfer(self):
+        (card,) = words.cards(deck_of(TRANSFER))
+        for way, text in ((0, "short"), (1, "long"), (2, "2"), (4294967295, "4294967295")):
+            card.way = way
+            self.assertEqual(show.transfer_fields(card)[-1], ("way", text))
+        self.assertRegex(show.card_text(7, card, 23), r"^card 7: solved transfer; rejected with 23: .*way")
 
     def test_no_cards(self):
         text = show.shown([], listing.Listing(None, [], [0, 0, 0]))
@@ -55,8 +88,17 @@ class Show(unittest.TestCase):
 
     def test_the_listing_of_another_deck(self):
         said = listing.Listing(None, [("refused", 0)], [0, 1, 0])
+        for card in (SOLVED, TRANSFER):
+            with self.assertRaisesRegex(streams.Stop, "not this deck's"):
+                show.cards_of(deck_of(card), said)
+
+    def test_the_listing_calls_a_transfer_solved(self):
+        said = listing.Listing(None, [("solved", 0), ("refused", 0), ("solved", 22)], [1, 1, 1])
+        cards = show.cards_of(deck_of(TRANSFER, REFUSED, SOLVED), said)
+        self.assertEqual([card.kind for card in cards], ["transfer", "refused", "solved"])
+        said.cards[0] = ("transfer", 0)
         with self.assertRaisesRegex(streams.Stop, "not this deck's"):
-            show.cards_of(deck_of(SOLVED), said)
+            show.cards_of(deck_of(TRANSFER, REFUSED, SOLVED), said)
 
 
 class Ran(unittest.TestCase):
@@ -127,6 +169,28 @@ class Ran(unittest.TestCase):
                 self.assertRegex(self.written, rb"^2 tailfiddle: the deck is refused with 30: no whole header; .*\n$")
 
 
+    def show_problems(self, *bodies):
+        """The status of 'show --problems' for a deck of which LISTING is the listing."""
+        with tempfile.TemporaryFile() as file:
+            file.write(deck_of(*bodies))
+            file.seek(0)
+            with mock.patch.object(streams, "open_input", return_value=file.fileno()):
+                return self.run_with(LISTING, "show", "--problems", "-")
+
+    def test_transfers_are_no_problems(self):
+        line = b"398600.44179999997 7000 0 0 0 7.5 1 3600 20\n"
+        for bodies, printed, said in (
+            ((SOLVED, TRANSFER, REFUSED), line * 2, b"2 tailfiddle: 1 transfer left out: "),
+            ((TRANSFER, TRANSFER, REFUSED), line, b"2 tailfiddle: 2 transfers left out: "),
+            ((SOLVED, SOLVED, REFUSED), line * 3, b""),
+        ):
+            with self.subTest(said):
+                self.written = b""
+                self.assertEqual(self.show_problems(*bodies), 0)
+                self.assertTrue(self.written.startswith(b"1 " + printed + said), self.written)
+                self.assertEqual(self.written.count(b"tailfiddle: "), 1 if said else 0)
+
+
 class Answers(unittest.TestCase):
     """What stands below a program's line, and how lines are passed on."""
 
@@ -140,6 +204,9 @@ class Answers(unittest.TestCase):
         bracket = f"refused 10 1 {one} 4034000000000000"
         rows = [bracket, "  reason    the limit is reached", "  guesses   1", "  bracket   1 to 20"]
         self.assertEqual(answers.explained("predict", bracket), rows)
+        found = f"solved 7 {one} {one} {one} 4034000000000000"
+        rows = [found, "  guesses   7", "  z         1", "  velocity  1 1 20 km/s"]
+        self.assertEqual(answers.explained("transfer", found), rows)
         self.assertEqual(answers.explained("root", f"root {one}"), [f"root {one} 1"])
         self.assertEqual(answers.explained("root", "refused 13"), ["refused 13"])
 

@@ -69,6 +69,14 @@ class Numbers(unittest.TestCase):
             with self.subTest(text[:20]), self.assertRaisesRegex(words.Wrong, "whole number from 0 to 4294967295"):
                 words.whole(text)
 
+    def test_ways(self):
+        self.assertEqual([words.way("short"), words.way("long")], [0, 1])
+        for text in ("", "0", "1", "Short", "long ", "shortlong", "nan"):
+            with self.subTest(text), self.assertRaisesRegex(words.Wrong, "the last word must be short or long"):
+                words.way(text)
+        for number, text in ((0, "short"), (1, "long"), (2, "2"), (4294967295, "4294967295")):
+            self.assertEqual(words.way_text(number), text)
+
     def test_words_as_decimals(self):
         self.assertEqual(words.decimal(words.word("0.1")), "0.10000000000000001")
         self.assertEqual(words.shortest(words.word("0.1")), "0.1")
@@ -99,10 +107,28 @@ class Records(unittest.TestCase):
     """Records of numbers, and the fields of a deck."""
 
     def test_a_problem_has_68_bytes(self):
-        record = words.packed("1 2 3 4 5 6 7 8 20".split(), words.LIMIT_PLACE)
+        record = words.problem("1 2 3 4 5 6 7 8 20".split())
         self.assertEqual(record, struct.pack("<8dI", 1, 2, 3, 4, 5, 6, 7, 8, 20))
         self.assertEqual(len(record), words.PROBLEM.size)
         self.assertEqual(words.PROBLEM.size, 68)
+
+    def test_a_transfer_has_72_bytes(self):
+        for way, number in (("short", 0), ("long", 1)):
+            record = words.transfer(["1", "2", "3", "4", "5", "6", "0x7ff8000000000abc", "8", "100", way])
+            wanted = struct.pack("<6dQdII", 1, 2, 3, 4, 5, 6, 0x7FF8000000000ABC, 8, 100, number)
+            self.assertEqual(record, wanted)
+            self.assertEqual(len(record), words.TRANSFER.size)
+        self.assertEqual(words.TRANSFER.size, 72)
+        self.assertEqual(len(words.TRANSFER_NAMES), 10)
+
+    def test_a_transfer_that_is_wrong(self):
+        for text, said in (
+            ("1 2 3 4 5 x 7 8 y z", "'x' is not a number"),
+            ("1 2 3 4 5 6 7 8 2.5 z", "'2.5' is not a whole number"),
+            ("1 2 3 4 5 6 7 8 20 z", "'z' is not a way"),
+        ):
+            with self.subTest(text), self.assertRaisesRegex(words.Wrong, said):
+                words.transfer(text.split())
 
     def test_words_alone(self):
         self.assertEqual(words.packed(["1", "0x00000000000000ff"]), struct.pack("<dQ", 1, 255))
@@ -113,7 +139,7 @@ class Records(unittest.TestCase):
             words.packed(["1", "x", "y"])
 
     def test_the_sizes_of_the_rules(self):
-        self.assertEqual(words.SIZES, {"solved": 128, "refused": 80})
+        self.assertEqual(words.SIZES, {"solved": 128, "refused": 80, "transfer": 104})
         self.assertEqual(words.MOST_DECK, 35848)
 
 
@@ -130,6 +156,7 @@ def deck_of(*bodies):
 PROBLEM = struct.pack("<8dI", 398600.4418, 7000, 0, 0, 0, 7.5, 1, 3600, 20)
 SOLVED = (1, PROBLEM + struct.pack("<I7d", 0, 0.5, 0.1, 2, 3, 4, 5, 6))
 REFUSED = (2, PROBLEM + struct.pack("<III", 9, 8, 7))
+TRANSFER = (3, struct.pack("<8dII4d", 398600.4418, 7000, 0, 0, 0, 8000, 1000, 1800, 100, 1, 3.5, 1.25, 7.5, 1))
 
 
 class Decks(unittest.TestCase):
@@ -145,13 +172,23 @@ class Decks(unittest.TestCase):
         _, card = words.cards(deck_of(SOLVED, REFUSED))
         self.assertEqual((card.kind, card.refusal, card.spares, card.answer), ("refused", 8, [9, 7], ()))
 
+    def test_a_transfer(self):
+        _, card, last = words.cards(deck_of(SOLVED, TRANSFER, REFUSED))
+        self.assertEqual((card.kind, card.limit, card.way, card.spares, card.refusal), ("transfer", 100, 1, [], 0))
+        numbers = [words.value_of(word) for word in card.numbers]
+        self.assertEqual(numbers, [398600.4418, 7000, 0, 0, 0, 8000, 1000, 1800])
+        self.assertEqual([words.value_of(word) for word in card.answer], [3.5, 1.25, 7.5, 1])
+        self.assertEqual((last.kind, last.refusal, last.way), ("refused", 8, None))
+
     def test_no_cards(self):
         self.assertEqual(words.cards(deck_of()), [])
 
     def test_what_is_no_whole_deck(self):
         good = deck_of(SOLVED, REFUSED)
-        bad = [b"", good[:7], good[:20], good[:-1], good + b"x", b"\2" + good[1:], deck_of((3, SOLVED[1]))]
+        bad = [b"", good[:7], good[:20], good[:-1], good + b"x", b"\2" + good[1:], deck_of((4, SOLVED[1]))]
         bad += [deck_of((2, REFUSED[1][:79])), struct.pack("<II", 1, 1 << 31)]
+        bad += [deck_of((3, SOLVED[1])), deck_of((1, TRANSFER[1])), deck_of((0, TRANSFER[1]))]
+        bad += [deck_of((3, TRANSFER[1][:103])), deck_of((3, TRANSFER[1] + bytes(4)))]
         for deck in bad:
             with self.subTest(deck[:30]), self.assertRaises(ValueError):
                 words.cards(deck)

@@ -2,11 +2,13 @@
 
 use std::fmt;
 
-pub enum Answer {
+/// N is how many numbers a solution has beside its x: those of a state, or of a transfer, whose x is
+/// z, those of a velocity.
+pub enum Answer<const N: usize = 6> {
     Solved {
         count: u32,
         x: f64,
-        state: [f64; 6],
+        state: [f64; N],
     },
     Refused {
         number: u32,
@@ -19,7 +21,7 @@ pub enum Answer {
     },
 }
 
-impl Answer {
+impl<const N: usize> Answer<N> {
     /// The number of a refusal. None where the problem is solved.
     pub fn refusal(&self) -> Option<u32> {
         match self {
@@ -31,7 +33,7 @@ impl Answer {
     }
 }
 
-impl fmt::Display for Answer {
+impl<const N: usize> fmt::Display for Answer<N> {
     fn fmt(&self, f: &mut fmt::Formatter) -> fmt::Result {
         match self {
             Answer::Solved { count, x, state } => {

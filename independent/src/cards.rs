@@ -4,19 +4,22 @@ use crate::answer::Answer;
 use crate::bytes::{u32_at, u64_at};
 use crate::conic::Words;
 use crate::kepler::{self, Input, PROBLEM};
+use crate::transfer;
 use crate::universal::functions;
 
 pub type State = [u64; 6];
+pub type Velocity = [u64; 3];
 
 #[derive(Clone, Copy)]
 pub enum Kind {
     Solved,
     Refused,
+    Transfer,
 }
 
 impl Kind {
     pub fn of(number: u32) -> Option<Kind> {
-        [Kind::Solved, Kind::Refused]
+        [Kind::Solved, Kind::Refused, Kind::Transfer]
             .into_iter()
             .find(|kind| kind.number() == number)
     }
@@ -25,6 +28,7 @@ impl Kind {
         match self {
             Kind::Solved => 1,
             Kind::Refused => 2,
+            Kind::Transfer => 3,
         }
     }
 
@@ -33,12 +37,14 @@ impl Kind {
         match self {
             Kind::Solved => 128,
             Kind::Refused => 80,
+            Kind::Transfer => 104,
         }
     }
 
+    /// How a listing names it.
     pub fn word(self) -> &'static str {
         match self {
-            Kind::Solved => "solved",
+            Kind::Solved | Kind::Transfer => "solved",
             Kind::Refused => "refused",
         }
     }
@@ -46,34 +52,53 @@ impl Kind {
 
 #[derive(Clone, Copy)]
 pub struct Card {
+    /// Kepler's problem; of a transfer all but its way.
     pub problem: Input,
-    pub spare: u32,
     pub claim: Claim,
 }
 
-/// What a card says of its problem.
+/// What a card says of its problem. A spare, or a transfer's way, stands behind the problem.
 #[derive(Clone, Copy)]
 pub enum Claim {
-    Solved { x: u64, state: State },
-    Refused { number: u32, spare: u32 },
+    Solved {
+        spare: u32,
+        x: u64,
+        state: State,
+    },
+    Refused {
+        spare: u32,
+        number: u32,
+        last: u32,
+    },
+    Transfer {
+        way: u32,
+        z: u64,
+        velocity: Velocity,
+    },
 }
 
 impl Card {
     pub fn solved(problem: Input, x: u64, state: State) -> Card {
-        let claim = Claim::Solved { x, state };
-        Card {
-            problem,
-            spare: 0,
-            claim,
-        }
+        let spare = 0;
+        let claim = Claim::Solved { spare, x, state };
+        Card { problem, claim }
     }
 
     pub fn refused(problem: Input, number: u32) -> Card {
-        let claim = Claim::Refused { number, spare: 0 };
+        let (spare, last) = (0, 0);
+        let claim = Claim::Refused {
+            spare,
+            number,
+            last,
+        };
+        Card { problem, claim }
+    }
+
+    pub fn transfer(input: transfer::Input, z: u64, velocity: Velocity) -> Card {
+        let transfer::Input { words, limit, way } = input;
         Card {
-            problem,
-            spare: 0,
-            claim,
+            problem: Input { words, limit },
+            claim: Claim::Transfer { way, z, velocity },
         }
     }
 
@@ -93,31 +118,47 @@ impl Card {
     /// or, where the problem has no orbit, with its own r and v.
     pub fn at(problem: Input, x: f64) -> Card {
         let state = match kepler::start(&problem) {
-            Ok(search) => {
-                let u = functions(x, search.orbit.alpha);
-                let radius = search.orbit.radius(&u);
-                search.orbit.state(u.u1, u.u2, radius).map(word)
+            Ok(kepler::Started { orbit, .. }) => {
+                let u = functions(x, orbit.alpha);
+                orbit.state(u.u1, u.u2, orbit.radius(&u)).map(word)
             }
             Err(_) => own_state(&problem.words),
         };
         Card::solved(problem, word(x), state)
     }
 
+    /// The transfer as solved at z, whether or not that is right: with the velocity that z comes to,
+    /// or, where the transfer is refused before, with its own r2.
+    pub fn transfer_at(input: transfer::Input, z: f64) -> Card {
+        let velocity = match transfer::start(&input) {
+            Ok(transfer::Started { transfer, .. }) => transfer.velocity(z).map(word),
+            Err(_) => std::array::from_fn(|i| input.words[4 + i]),
+        };
+        Card::transfer(input, word(z), velocity)
+    }
+
     /// The card with this body, which has its kind's length.
     pub fn read(kind: Kind, body: &[u8]) -> Card {
+        let (behind, answer) = (u32_at(body, PROBLEM), PROBLEM + 4);
         let claim = match kind {
             Kind::Solved => Claim::Solved {
-                x: u64_at(body, 72),
-                state: std::array::from_fn(|i| u64_at(body, 80 + 8 * i)),
+                spare: behind,
+                x: u64_at(body, answer),
+                state: std::array::from_fn(|i| u64_at(body, answer + 8 + 8 * i)),
             },
             Kind::Refused => Claim::Refused {
-                number: u32_at(body, 72),
-                spare: u32_at(body, 76),
+                spare: behind,
+                number: u32_at(body, answer),
+                last: u32_at(body, answer + 4),
+            },
+            Kind::Transfer => Claim::Transfer {
+                way: behind,
+                z: u64_at(body, answer),
+                velocity: std::array::from_fn(|i| u64_at(body, answer + 8 + 8 * i)),
             },
         };
         Card {
             problem: Input::read(body),
-            spare: u32_at(body, PROBLEM),
             claim,
         }
     }
@@ -126,36 +167,38 @@ impl Card {
         match self.claim {
             Claim::Solved { .. } => Kind::Solved,
             Claim::Refused { .. } => Kind::Refused,
+            Claim::Transfer { .. } => Kind::Transfer,
         }
     }
 
     pub fn body(&self) -> Vec<u8> {
-        let mut body = self.problem.bytes().to_vec();
-        body.extend(u32s(&[self.spare]));
-        match self.claim {
-            Claim::Solved { x, state } => {
-                body.extend(x.to_le_bytes());
-                body.extend(state.iter().flat_map(|word| word.to_le_bytes()));
-            }
-            Claim::Refused { number, spare } => body.extend(u32s(&[number, spare])),
-        }
-        body
+        let (behind, answer) = match self.claim {
+            Claim::Solved { spare, x, state } => (spare, u64s(&[&[x], &state[..]].concat())),
+            Claim::Refused {
+                spare,
+                number,
+                last,
+            } => (spare, u32s(&[number, last])),
+            Claim::Transfer { way, z, velocity } => (way, u64s(&[&[z], &velocity[..]].concat())),
+        };
+        [&self.problem.bytes()[..], &u32s(&[behind]), &answer].concat()
     }
 
-    /// Whether a spare of the card is not 0.
+    /// Whether a spare of the card is not 0. A transfer has none.
     pub fn has_spare(&self) -> bool {
-        let last = match self.claim {
-            Claim::Solved { .. } => 0,
-            Claim::Refused { spare, .. } => spare,
-        };
-        self.spare != 0 || last != 0
+        match self.claim {
+            Claim::Solved { spare, .. } => spare != 0,
+            Claim::Refused { spare, last, .. } => spare != 0 || last != 0,
+            Claim::Transfer { .. } => false,
+        }
     }
 
     /// The card with each spare 0.
     pub fn anew(&self) -> Card {
         match self.claim {
-            Claim::Solved { x, state } => Card::solved(self.problem, x, state),
+            Claim::Solved { x, state, .. } => Card::solved(self.problem, x, state),
             Claim::Refused { number, .. } => Card::refused(self.problem, number),
+            Claim::Transfer { .. } => *self,
         }
     }
 }
@@ -175,4 +218,8 @@ fn own_state(words: &Words) -> State {
 
 pub fn u32s(numbers: &[u32]) -> Vec<u8> {
     numbers.iter().flat_map(|n| n.to_le_bytes()).collect()
+}
+
+fn u64s(words: &[u64]) -> Vec<u8> {
+    words.iter().flat_map(|word| word.to_le_bytes()).collect()
 }

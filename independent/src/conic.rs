@@ -1,13 +1,14 @@
 //! What Kepler and Theta share: RULES, From the state to the scaled problem, and RULES,
-//! Unfolding, with the refusals that belong to them.
+//! Unfolding, with the refusals that belong to them. The transfer has the first two refusals too.
 
 use crate::answer::refuse;
 use crate::root::{self, root};
-use crate::universal::Functions;
+use crate::universal::{functions, Functions};
 
 pub type Vector = [f64; 3];
 
-/// mu, r, v and dt (Kepler) or the angle (Theta), as they are sent.
+/// mu, r, v and dt (Kepler) or the angle (Theta), as they are sent. A transfer has its two positions
+/// in the places of r and v.
 pub type Words = [u64; 8];
 
 pub struct Problem {
@@ -89,6 +90,17 @@ impl Orbit {
         u.u0 + self.s * u.u1 + u.u2
     }
 
+    /// T at x.
+    pub fn time_at(&self, x: f64) -> f64 {
+        self.time(&functions(x, self.alpha))
+    }
+
+    /// What x unfolds to.
+    pub fn arrive(&self, x: f64) -> Result<[f64; 6], u32> {
+        let u = functions(x, self.alpha);
+        self.unfold(u.u1, u.u2, self.radius(&u))
+    }
+
     /// Position and velocity, after refusal 11 and before refusal 6 of a component.
     pub fn unfold(&self, u1: f64, u2: f64, radius: f64) -> Result<[f64; 6], u32> {
         refuse(11, radius < LOW || radius.is_nan())?;
@@ -120,12 +132,12 @@ pub fn inner_root(x: f64) -> Result<f64, u32> {
     }
 }
 
-fn usable(number: u32, x: f64) -> Result<f64, u32> {
+pub fn usable(number: u32, x: f64) -> Result<f64, u32> {
     refuse(number, x == 0.0 || !x.is_finite())?;
     Ok(x)
 }
 
-fn all_finite(numbers: &[f64]) -> bool {
+pub fn all_finite(numbers: &[f64]) -> bool {
     numbers.iter().all(|x| x.is_finite())
 }
 

@@ -1,7 +1,7 @@
 //! The decks that are copied: many whose copy is the same bytes, some with spares that are not 0,
 //! and some that are refused.
 
-use crate::cards::Card;
+use crate::cards::{Card, Claim};
 use crate::chance::Chance;
 use crate::damage::{self, lengthened};
 use crate::deck::MOST_CARDS;
@@ -11,6 +11,7 @@ use crate::kepler::Input;
 use crate::motion::NOT_FINITE;
 use crate::refused_cards::{spares, with_spares};
 use crate::solved_cards;
+use crate::transfer_decks;
 use crate::writer::deck;
 
 /// The gate's decks, the same list in every run.
@@ -23,6 +24,7 @@ pub fn fixed() -> Vec<Named> {
     list.extend(with_a_spare(chance));
     list.extend(damaged());
     list.extend(long(chance));
+    list.extend(transfer_decks::to_copy());
     list
 }
 
@@ -73,7 +75,7 @@ fn not_finite(chance: &mut Chance) -> Vec<Vec<u8>> {
 }
 
 /// The card with another word at a place of its body.
-fn with_word(card: &Card, at: usize, word: u64) -> Card {
+pub fn with_word(card: &Card, at: usize, word: u64) -> Card {
     let mut body = card.body();
     body[at..at + 8].copy_from_slice(&word.to_le_bytes());
     Card::read(card.kind(), &body)
@@ -114,13 +116,14 @@ fn with_bits(cards: [Card; 3], place: usize, bits: u32) -> Vec<Vec<u8>> {
 }
 
 /// The card with each bit of each spare set.
-fn every_spare(card: &Card) -> Card {
-    let first = with_spares(*card, u32::MAX);
-    let last = first.last().copied().unwrap_or(*card);
-    Card {
-        spare: u32::MAX,
-        ..last
+pub fn every_spare(card: &Card) -> Card {
+    let mut all = *card;
+    match &mut all.claim {
+        Claim::Solved { spare, .. } => *spare = u32::MAX,
+        Claim::Refused { spare, last, .. } => [*spare, *last] = [u32::MAX; 2],
+        Claim::Transfer { .. } => {}
     }
+    all
 }
 
 /// Decks for each refusal.

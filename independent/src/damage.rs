@@ -11,8 +11,8 @@ const LENGTH: usize = 8;
 
 type Damage = fn(&mut Vec<u8>);
 
-/// Damages to a deck of three cards, solved, refused, solved. In pairs they show which test of a
-/// deck comes first.
+/// Damages to a deck of three cards, as deck A: solved, refused, solved. In pairs they show which test
+/// of a deck comes first.
 const DAMAGES: [Damage; 18] = [
     |deck| put(deck, 0, 2),
     |deck| put(deck, 4, 257),
@@ -69,6 +69,23 @@ fn others(value: u32) -> Vec<u32> {
     let bits = [8, 16, 24, 31].map(|bit| value ^ 1 << bit);
     let plain = [0, 1, 2, 3, 80, 128, 257, (1 << 31) - 1, 1 << 31, u32::MAX];
     [&moved[..], &bits, &plain].concat()
+}
+
+/// The entry of each card in turn with each of some kinds and lengths, right and wrong together.
+pub fn kinds_and_lengths(deck: &[u8]) -> Vec<Vec<u8>> {
+    let kinds = [0, 1, 2, 3, 4, 0x0100_0003];
+    let lengths = [80, 103, 104, 105, 128];
+    let pairs = kinds.map(|kind| lengths.map(|length| (kind, length)));
+    (0..u32_at(deck, 4) as usize)
+        .flat_map(|card| pairs.concat().into_iter().map(move |pair| (card, pair)))
+        .map(|(card, (kind, length))| {
+            changed(deck, |deck| {
+                put(deck, at(card, KIND), kind);
+                put(deck, at(card, LENGTH), length);
+            })
+        })
+        .filter(|altered| altered != deck)
+        .collect()
 }
 
 /// Each damage alone.

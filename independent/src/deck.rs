@@ -2,9 +2,10 @@
 
 use crate::answer::refuse;
 use crate::bytes::u32_at;
-use crate::cards::{Card, Claim, Kind, State};
-use crate::kepler::{self, NEAR};
-use crate::universal::functions;
+use crate::cards::{Card, Claim, Kind, State, Velocity};
+use crate::kepler::{self, Input};
+use crate::search::{Search, NEAR};
+use crate::transfer;
 
 /// As much as a program reads of a deck: one byte more than the largest one has.
 const READ: usize = 35_849;
@@ -16,7 +17,7 @@ pub const ENTRIES: usize = 8;
 pub const ENTRY: usize = 12;
 
 enum Verdict {
-    /// Verdict 0 of a solved card, with its |T - t|.
+    /// Verdict 0 of a solved card or a solved transfer, with its |T - t|.
     Solved(f64),
     /// Verdict 0 of a refused card.
     Refused,
@@ -87,25 +88,43 @@ fn body_at<'a>(deck: &'a [u8], entry: &[u8], end: usize) -> Result<(Kind, &'a [u
 
 fn verdict(card: &Card) -> Verdict {
     let verdict = match card.claim {
-        Claim::Solved { x, state } => solved(card, f64::from_bits(x), state).map(Verdict::Solved),
+        Claim::Solved { x, state, .. } => solved(card, x, state).map(Verdict::Solved),
         Claim::Refused { number, .. } => refused(card, number).map(|()| Verdict::Refused),
+        Claim::Transfer { way, z, velocity } => {
+            let Input { words, limit } = card.problem;
+            let input = transfer::Input { words, limit, way };
+            transferred(&input, z, velocity).map(Verdict::Solved)
+        }
     };
     verdict.unwrap_or_else(Verdict::Rejected)
 }
 
 /// |T - t| of a solved card, or its verdict. States are compared as words.
-fn solved(card: &Card, x: f64, sent: State) -> Result<f64, u32> {
+fn solved(card: &Card, x: u64, sent: State) -> Result<f64, u32> {
     refuse(23, card.has_spare())?;
-    let search = kepler::start(&card.problem)?;
-    let inside = search.lo.x <= x && x <= search.hi.x;
-    refuse(20, !x.is_finite() || !inside)?;
-    let u = functions(x, search.orbit.alpha);
-    let time = search.orbit.time(&u);
+    let kepler::Started { orbit, search } = kepler::start(&card.problem)?;
+    let x = f64::from_bits(x);
+    let gap = gap(&search, x, |x| orbit.time_at(x))?;
+    refuse(22, sent != orbit.arrive(x)?.map(f64::to_bits))?;
+    Ok(gap)
+}
+
+/// The same of a solved transfer. Its way is tested before all else.
+fn transferred(input: &transfer::Input, z: u64, sent: Velocity) -> Result<f64, u32> {
+    let transfer::Started { transfer, search } = transfer::start(input)?;
+    let z = f64::from_bits(z);
+    let gap = gap(&search, z, |z| transfer.time(z))?;
+    refuse(22, sent != transfer.departure(z)?.map(f64::to_bits))?;
+    Ok(gap)
+}
+
+/// |T - t| at the x, or z, of a card, after 20, 6 and 21.
+fn gap(search: &Search, x: f64, time: impl Fn(f64) -> f64) -> Result<f64, u32> {
+    refuse(20, !x.is_finite() || !search.contains(x))?;
+    let time = time(x);
     refuse(6, !time.is_finite())?;
     let gap = (time - search.t).abs();
     refuse(21, gap > NEAR)?;
-    let state = search.orbit.unfold(u.u1, u.u2, search.orbit.radius(&u))?;
-    refuse(22, sent != state.map(f64::to_bits))?;
     Ok(gap)
 }
 

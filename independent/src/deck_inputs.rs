@@ -11,11 +11,16 @@ use crate::motion::PLAIN;
 use crate::refused_cards as refused;
 use crate::solved_cards::{self as solved, Sort};
 use crate::ties;
+use crate::transfer_cards;
+use crate::transfer_decks;
 use crate::writer::deck;
 
-/// The sorts of cards, how many rounds of each the gate's decks have, and how many cards at most
-/// stand in one of these.
-pub const SORTS: [(&str, usize, u64, Sort); 19] = [
+/// A sort of cards, how many rounds of it the gate's decks have, and how many cards at most stand in
+/// one of these.
+pub type SortRow = (&'static str, usize, u64, Sort);
+
+/// The sorts that are not transfers. The first is Kepler's own answers.
+pub const SORTS: [SortRow; 19] = [
     ("own", 200, 16, own),
     ("moved", 60, 16, solved::moved),
     ("other-ways", 200, 16, solved::other_ways),
@@ -42,19 +47,34 @@ pub fn fixed() -> Vec<Named> {
     let chance = &mut Chance::at(4, 0);
     let mut list = trials();
     list.extend(of_kepler(chance));
-    for (name, rounds, most, sort) in SORTS {
-        let cards: Vec<Card> = (0..rounds).flat_map(|_| sort(chance)).collect();
-        list.extend(named(name, dealt(&cards, most, chance)));
-    }
+    list.extend(of_sorts(&SORTS, chance));
     list.extend(named("rounded-down", rounded_down(chance)));
     list.extend(damaged());
     list.extend(long(chance));
-    list.extend((0..600).map(|_| mixed(chance)));
+    list.extend((0..600).map(|_| mixture(chance, |chance| few(&SORTS, chance))));
+    list.extend(transfer_decks::fixed());
     list
 }
 
-/// One deck of some kind. Most of them are not damaged.
+/// Decks of each sort.
+pub fn of_sorts(sorts: &[SortRow], chance: &mut Chance) -> Vec<Named> {
+    let mut list = Vec::new();
+    for (name, rounds, most, sort) in sorts {
+        let cards: Vec<Card> = (0..*rounds).flat_map(|_| sort(chance)).collect();
+        list.extend(named(name, dealt(&cards, *most, chance)));
+    }
+    list
+}
+
+/// One deck of some kind, with cards of each kind. Most of them are not damaged.
 pub fn mixed(chance: &mut Chance) -> Named {
+    mixture(chance, |chance| match chance.below(3) {
+        0 => few(&transfer_cards::SORTS, chance),
+        _ => few(&SORTS, chance),
+    })
+}
+
+fn mixture(chance: &mut Chance, few: impl Fn(&mut Chance) -> Vec<Card>) -> Named {
     let most = chance.one_of(&[1, 4, 16, 16, 64, 256]);
     let count = chance.below(most + 1) as usize;
     let mut cards = Vec::new();
@@ -71,9 +91,10 @@ pub fn mixed(chance: &mut Chance) -> Named {
     }
 }
 
-/// A few cards, of one sort. Many of them are Kepler's own answers.
-fn few(chance: &mut Chance) -> Vec<Card> {
-    let (_, _, _, any) = chance.one_of(&SORTS);
+/// A few cards, of one sort. Many of them are of the first sort, our own answers.
+fn few(sorts: &[SortRow], chance: &mut Chance) -> Vec<Card> {
+    let (_, _, _, own) = sorts[0];
+    let (_, _, _, any) = chance.one_of(sorts);
     let sort = chance.one_of(&[own, any]);
     let cards = sort(chance);
     let first = chance.below(cards.len().max(1) as u64) as usize;

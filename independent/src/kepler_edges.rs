@@ -4,9 +4,10 @@ use crate::answer::Answer;
 use crate::chance::{power_of_two, Chance};
 use crate::conic::{Orbit, Vector, Words, LOW};
 use crate::edges;
-use crate::kepler::{answer, far_end, Input, NEAR};
+use crate::kepler::{answer, far_end, Input};
 use crate::kepler_inputs::{aimed, unhurried};
 use crate::motion::{self, beside, either_way, last, orbit_of, with, Frame, SPAN};
+use crate::search::NEAR;
 use crate::universal::functions;
 
 /// The problems about a line, for some motion. None where it does not come to the line.
@@ -57,7 +58,7 @@ impl Exact {
     }
 
     pub fn time(&self, x: f64) -> f64 {
-        self.orbit.time(&functions(x, self.orbit.alpha))
+        self.orbit.time_at(x)
     }
 
     pub fn radius(&self, x: f64) -> f64 {

@@ -2,19 +2,26 @@
 //! answer as bytes is held here.
 
 use crate::bytes::u32_at;
-use crate::cards::Claim;
+use crate::cards::{Claim, Kind};
 use crate::deck::{self, ENTRIES, ENTRY, MOST_CARDS};
 use crate::kepler::PROBLEM;
 
-/// Of a listing: the kind and the verdict of each card, or the deck's refusal.
-pub fn listed(_: &[u8], listing: &[u8]) -> Vec<String> {
+/// Of a listing: the kind and the verdict of each card, or the deck's refusal; and whether the deck
+/// has a transfer. A listing calls a transfer solved; here it is told apart.
+pub fn listed(deck: &[u8], listing: &[u8]) -> Vec<String> {
     let listing = String::from_utf8_lossy(listing);
-    let kind = |line: &str| match line.split(' ').collect::<Vec<&str>>()[..] {
-        ["card", _, kind, verdict] => Some(format!("{kind} {verdict}")),
+    let mut entries = entries(deck);
+    let mut kind = |line: &str| match line.split(' ').collect::<Vec<&str>>()[..] {
+        ["card", _, word, verdict] => Some(match entries.next().is_some_and(is_transfer) {
+            true => format!("transfer {verdict}"),
+            false => format!("{word} {verdict}"),
+        }),
         ["deck", _] => Some(line.to_string()),
         _ => None,
     };
-    listing.lines().filter_map(kind).collect()
+    let mut kinds: Vec<String> = listing.lines().filter_map(&mut kind).collect();
+    kinds.extend(with_transfer(deck));
+    kinds
 }
 
 /// Of what `write_deck` writes: what each card says, `written` and how many there are; or the refusal. The
@@ -32,23 +39,28 @@ pub fn written(problems: &[u8], answer: &[u8]) -> Vec<String> {
     let said = cards.iter().map(|card| match card.claim {
         Claim::Solved { .. } => "solved".to_string(),
         Claim::Refused { number, .. } => format!("refused {number}"),
+        Claim::Transfer { .. } => panic!("a written deck has a transfer"),
     });
     said.chain(["written".to_string(), how_many(cards.len())])
         .collect()
 }
 
 /// Of what `copy_deck` writes: `same` where it is the same bytes, `cleared` where it is the same but
-/// for the spares, and how many cards there are; or the refusal.
+/// for the spares, and how many cards there are, or the refusal; and whether the deck has a transfer.
 pub fn copied(deck: &[u8], answer: &[u8]) -> Vec<String> {
     if let Some(line) = refusal(answer) {
-        return vec![line];
+        return [line].into_iter().chain(with_transfer(deck)).collect();
     }
     assert!(
         answer == cleared(deck),
         "a copy is not the deck with each spare 0"
     );
     let kind = if answer == deck { "same" } else { "cleared" };
-    vec![kind.to_string(), how_many(u32_at(deck, 4) as usize)]
+    let count = how_many(u32_at(deck, 4) as usize);
+    [kind.to_string(), count]
+        .into_iter()
+        .chain(with_transfer(deck))
+        .collect()
 }
 
 /// The line that stands in for a deck. A deck begins with the byte 1.
@@ -57,18 +69,37 @@ fn refusal(answer: &[u8]) -> Option<String> {
     line.starts_with("deck ").then(|| line.into_owned())
 }
 
-/// The deck with each byte of a spare 0, by the entries alone.
+/// The deck with each byte of a spare 0, by the entries alone. A transfer has no spare.
 fn cleared(deck: &[u8]) -> Vec<u8> {
     let mut bytes = deck.to_vec();
-    let entries = deck[ENTRIES..].chunks_exact(ENTRY);
-    for entry in entries.take(u32_at(deck, 4) as usize) {
+    for entry in entries(deck) {
         let (kind, body) = (u32_at(entry, 0), u32_at(entry, 4) as usize);
-        bytes[body + 68..body + 72].fill(0);
+        if kind == 1 || kind == 2 {
+            bytes[body + 68..body + 72].fill(0);
+        }
         if kind == 2 {
             bytes[body + 76..body + 80].fill(0);
         }
     }
     bytes
+}
+
+/// The kind of a deck, damaged or not, that has a transfer among its entries.
+fn with_transfer(deck: &[u8]) -> Option<String> {
+    entries(deck)
+        .any(is_transfer)
+        .then(|| "with transfer".to_string())
+}
+
+fn is_transfer(entry: &[u8]) -> bool {
+    u32_at(entry, 0) == Kind::Transfer.number()
+}
+
+/// The entries of a deck, damaged or not, as far as there are any.
+fn entries(deck: &[u8]) -> impl Iterator<Item = &[u8]> {
+    let entries = deck.get(ENTRIES..).unwrap_or_default();
+    let count = deck.get(4..ENTRIES).map_or(0, |count| u32_at(count, 0));
+    entries.chunks_exact(ENTRY).take(count as usize)
 }
 
 /// The fewest and the most cards, each number a kind of its own; the others are one.

@@ -2,6 +2,7 @@
 //! print is compared with what this program prints for the same inputs.
 
 mod answer;
+mod arrivals;
 mod bytes;
 mod cards;
 mod chance;
@@ -16,17 +17,24 @@ mod kepler;
 mod kepler_edges;
 mod kepler_inputs;
 mod kinds;
+mod legs;
 mod motion;
 mod problem_inputs;
 mod reading;
 mod refused_cards;
 mod root;
 mod root_inputs;
+mod search;
 mod solved_cards;
 mod suite;
 mod theta;
 mod theta_inputs;
 mod ties;
+mod transfer;
+mod transfer_cards;
+mod transfer_decks;
+mod transfer_edges;
+mod transfer_inputs;
 mod universal;
 mod writer;
 
@@ -41,12 +49,18 @@ const USAGE: &str = "\
 usage: independent NAME inputs                    the gate's inputs, in little-endian bytes
        independent NAME answers                   reads inputs, writes one line for each
        independent NAME random SEED COUNT [FROM]  COUNT inputs made from SEED, from place FROM on
-NAME is a proved program's: roots, predict or turn. Each input of check_deck and copy_deck is a file,
-PLACE.deck, and so is each of write_deck, PLACE.problems; NAME is one of these three:
+NAME is a proved program's: roots, predict, turn or transfer. Each input of check_deck and copy_deck is
+a file, PLACE.deck, and so is each of write_deck, PLACE.problems; NAME is one of these three:
        independent NAME inputs INTO               the gate's inputs, into the folder INTO
        independent NAME answers INPUTS INTO       for each input of a folder a file PLACE.answer
        independent NAME random SEED COUNT [FROM] INTO
-       independent NAME kinds INPUTS ANSWERS      a line for each kind of each answer";
+       independent NAME kinds INPUTS ANSWERS      a line for each kind of each answer
+Whether transfers arrive; RECORDS, LINES and OUTCOMES are files:
+       independent transfer arcs                  transfers, as records
+       independent transfer departures RECORDS LINES
+                                                  Kepler's problems for those that LINES calls solved
+       independent transfer arrivals RECORDS LINES OUTCOMES
+                                                  how near Kepler's OUTCOMES come";
 
 const ROOTS: Suite<u64, 8> = Suite {
     fixed: root_inputs::fixed,
@@ -67,6 +81,13 @@ const TURN: Suite<Words, 64> = Suite {
     mixed: theta_inputs::mixed,
     bytes: words_to_bytes,
     line: |bytes| theta::answer(&words_from_bytes(&bytes)).to_string(),
+};
+
+const TRANSFER: Suite<transfer::Input, { transfer::RECORD }> = Suite {
+    fixed: transfer_inputs::fixed,
+    mixed: transfer_inputs::mixed,
+    bytes: transfer::Input::bytes,
+    line: |bytes| transfer::answer(&transfer::Input::read(&bytes)).to_string(),
 };
 
 const CHECK_DECK: FileSuite = FileSuite {
@@ -104,6 +125,9 @@ fn main() -> ExitCode {
         ["roots", ref command @ ..] => ROOTS.run(&mut out, command),
         ["predict", ref command @ ..] => PREDICT.run(&mut out, command),
         ["turn", ref command @ ..] => TURN.run(&mut out, command),
+        ["transfer", ref command @ ..] => TRANSFER
+            .run(&mut out, command)
+            .or_else(|| arrivals::run(&mut out, command)),
         ["check_deck", ref command @ ..] => CHECK_DECK.run(&mut out, command),
         ["write_deck", ref command @ ..] => WRITE_DECK.run(&mut out, command),
         ["copy_deck", ref command @ ..] => COPY_DECK.run(&mut out, command),

@@ -1,4 +1,5 @@
-//! Motions to try, for Kepler and Theta alike: a scaled velocity, and a frame to put it in.
+//! Motions to try, for Kepler and Theta alike: a scaled velocity, and a frame to put it in. A frame
+//! also takes the two positions of a transfer.
 //! Nothing but + - * / and the root is used, so that the inputs are the same on every machine.
 
 use crate::chance::{power_of_two, Chance};
@@ -77,10 +78,26 @@ impl Frame {
     /// the three directions: the first of them is s.
     pub fn words(&self, w: Vector, span: f64) -> Words {
         let f1 = (self.r0 / self.mu).sqrt();
-        let r = times(self.r0, self.axes[0]);
-        let parts: [Vector; 3] = std::array::from_fn(|i| times(w[i] / f1, self.axes[i]));
-        let v: Vector = std::array::from_fn(|i| parts[0][i] + parts[1][i] + parts[2][i]);
-        [self.mu, r[0], r[1], r[2], v[0], v[1], v[2], span].map(f64::to_bits)
+        self.sent(self.vector(w.map(|part| part / f1)), span)
+    }
+
+    /// The transfer to a second position, of this length and in this direction: its cosine and sine
+    /// go along the first two directions.
+    pub fn transfer(&self, length: f64, direction: [f64; 2], dt: f64) -> Words {
+        let [cos, sin] = direction;
+        self.sent(self.vector([length * cos, length * sin, 0.0]), dt)
+    }
+
+    /// The vector with these parts along the three directions.
+    fn vector(&self, parts: Vector) -> Vector {
+        let parts: [Vector; 3] = std::array::from_fn(|i| times(parts[i], self.axes[i]));
+        std::array::from_fn(|i| parts[0][i] + parts[1][i] + parts[2][i])
+    }
+
+    fn sent(&self, second: Vector, span: f64) -> Words {
+        let [rx, ry, rz] = times(self.r0, self.axes[0]);
+        let [vx, vy, vz] = second;
+        [self.mu, rx, ry, rz, vx, vy, vz, span].map(f64::to_bits)
     }
 }
 
@@ -90,9 +107,18 @@ fn directions(chance: &mut Chance) -> [Vector; 3] {
     let b = somewhere(chance);
     let along = dot(a, b);
     let b = unit(std::array::from_fn(|i| b[i] - along * a[i]));
-    let c =
-        std::array::from_fn(|i| a[(i + 1) % 3] * b[(i + 2) % 3] - a[(i + 2) % 3] * b[(i + 1) % 3]);
-    [a, b, c]
+    [a, b, cross(a, b)]
+}
+
+pub fn cross(a: Vector, b: Vector) -> Vector {
+    std::array::from_fn(|i| a[(i + 1) % 3] * b[(i + 2) % 3] - a[(i + 2) % 3] * b[(i + 1) % 3])
+}
+
+/// The cosine and the sine of some angle.
+pub fn direction(chance: &mut Chance) -> [f64; 2] {
+    let [a, b, _] = somewhere(chance);
+    let [cos, sin, _] = unit([a, b, 0.0]);
+    [cos, sin]
 }
 
 fn somewhere(chance: &mut Chance) -> Vector {
@@ -123,8 +149,8 @@ pub fn any(chance: &mut Chance) -> Vector {
 
 /// A scaled velocity with this alpha, in some direction.
 pub fn of_alpha(chance: &mut Chance, alpha: f64) -> Vector {
-    let [a, b, _] = somewhere(chance);
-    times((2.0 - alpha).sqrt(), unit([a, b, 0.0]))
+    let [cos, sin] = direction(chance);
+    times((2.0 - alpha).sqrt(), [cos, sin, 0.0])
 }
 
 pub fn ellipse(chance: &mut Chance) -> Vector {

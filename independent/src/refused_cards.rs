@@ -103,18 +103,25 @@ pub fn spares(chance: &mut Chance) -> Vec<Card> {
         .collect()
 }
 
-/// The card with its problem's spare, and with the one after its number if it has that.
+/// The card with its problem's spare, and with the one after its number if it has that. A transfer has
+/// neither.
 pub fn with_spares(card: Card, bits: u32) -> Vec<Card> {
-    let mut cards = vec![Card {
-        spare: bits,
-        ..card
-    }];
-    if let Claim::Refused { number, .. } = card.claim {
-        let claim = Claim::Refused {
-            number,
-            spare: bits,
-        };
-        cards.push(Card { claim, ..card });
-    }
-    cards
+    let claims = match card.claim {
+        Claim::Solved { x, state, .. } => {
+            let spare = bits;
+            vec![Claim::Solved { spare, x, state }]
+        }
+        Claim::Refused { number, .. } => [(bits, 0), (0, bits)]
+            .map(|(spare, last)| Claim::Refused {
+                spare,
+                number,
+                last,
+            })
+            .to_vec(),
+        Claim::Transfer { .. } => Vec::new(),
+    };
+    claims
+        .into_iter()
+        .map(|claim| Card { claim, ..card })
+        .collect()
 }

@@ -6,20 +6,21 @@ use crate::cards::{Card, Claim, State};
 use crate::chance::{power_of_two, Chance};
 use crate::conic::LOW;
 use crate::edges;
-use crate::kepler::{self, far_end, Input, Search, NEAR};
+use crate::kepler::{self, far_end, Input, Started};
 use crate::kepler_edges::Exact;
 use crate::kepler_inputs::{self, aimed, unhurried};
 use crate::motion::{self, backwards, beside, last, orbit_of, with, Frame, NOT_FINITE, SPAN};
+use crate::search::NEAR;
 use crate::universal::functions;
 
 /// Cards of one sort, made by chance.
 pub type Sort = fn(&mut Chance) -> Vec<Card>;
 
 /// The least positive number.
-const LEAST: f64 = f64::from_bits(1);
+pub const LEAST: f64 = 5e-324;
 
 /// How far an x is moved, in last places.
-const PLACES: [i64; 14] = [
+pub const PLACES: [i64; 14] = [
     -(1 << 40),
     -(1 << 20),
     -100,
@@ -40,7 +41,7 @@ const PLACES: [i64; 14] = [
 /// nearly so.
 pub struct Base {
     problem: Input,
-    search: Search,
+    started: Started,
     side: f64,
     size: f64,
 }
@@ -60,11 +61,11 @@ impl Base {
 
     /// None where the tests refuse the problem.
     pub fn of(problem: Input) -> Option<Base> {
-        let search = kepler::start(&problem).ok()?;
-        let side = if search.t >= 0.0 { 1.0 } else { -1.0 };
+        let started = kepler::start(&problem).ok()?;
+        let side = if started.search.t >= 0.0 { 1.0 } else { -1.0 };
         let mut base = Base {
             problem,
-            search,
+            started,
             side,
             size: 0.0,
         };
@@ -77,18 +78,17 @@ impl Base {
 
     /// The far end's size.
     fn far(&self) -> f64 {
-        self.search.hi.x - self.search.lo.x
+        self.started.search.hi.x - self.started.search.lo.x
     }
 
     /// T on the problem's own side.
     fn time(&self, size: f64) -> f64 {
-        let u = functions(self.side * size, self.search.orbit.alpha);
-        self.side * self.search.orbit.time(&u)
+        self.side * self.started.orbit.time_at(self.side * size)
     }
 
     /// t on the problem's own side.
     fn wanted(&self) -> f64 {
-        self.side * self.search.t
+        self.side * self.started.search.t
     }
 
     fn at(&self, size: f64) -> Card {
@@ -107,10 +107,10 @@ impl Base {
 
     /// The size by Newton's iteration: R is the slope of T.
     fn newton(&self) -> f64 {
-        let orbit = &self.search.orbit;
+        let Started { orbit, search } = &self.started;
         let step = |x: f64| {
             let u = functions(x, orbit.alpha);
-            x - (orbit.time(&u) - self.search.t) / orbit.radius(&u)
+            x - (orbit.time(&u) - search.t) / orbit.radius(&u)
         };
         let middle = self.side * self.far() / 2.0;
         self.side * (0..60).fold(middle, |x, _| step(x))
@@ -296,7 +296,7 @@ pub fn sent(exact: &Exact, t: f64, side: f64, size: f64) -> Card {
 fn state(card: &Card) -> State {
     match card.claim {
         Claim::Solved { state, .. } => state,
-        Claim::Refused { .. } => [0; 6],
+        Claim::Refused { .. } | Claim::Transfer { .. } => [0; 6],
     }
 }
 

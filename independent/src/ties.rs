@@ -4,12 +4,12 @@
 use crate::cards::{Card, Claim};
 use crate::chance::{power_of_two, Chance};
 use crate::deck;
-use crate::kepler::{self, NEAR};
+use crate::kepler;
 use crate::kepler_edges::Exact;
 use crate::motion::{self, beside};
 use crate::root::parts;
+use crate::search::NEAR;
 use crate::solved_cards::sent;
-use crate::universal::functions;
 use crate::writer;
 
 /// The whole numbers are multiples of 2^-160.
@@ -66,11 +66,11 @@ fn accepted(card: &Card) -> bool {
 
 /// |T - t|, both being on the same side of 0.
 fn exact_gap(card: &Card) -> u128 {
-    let (Ok(search), Claim::Solved { x, .. }) = (kepler::start(&card.problem), card.claim) else {
+    let (Ok(started), Claim::Solved { x, .. }) = (kepler::start(&card.problem), card.claim) else {
         panic!("a card about the tie is a solved one, of a problem that passes the first tests");
     };
-    let time = (search.orbit).time(&functions(f64::from_bits(x), search.orbit.alpha));
-    whole(time.abs()).abs_diff(whole(search.t.abs()))
+    let time = started.orbit.time_at(f64::from_bits(x));
+    whole(time.abs()).abs_diff(whole(started.search.t.abs()))
 }
 
 /// A positive number in units.

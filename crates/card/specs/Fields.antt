@@ -8,7 +8,10 @@ use Rattle.exact.specs.Numbers.{numberOf}
 use Rattle.words.specs.Words.{valueAt}
 use Rattle.vectors.specs.declared.Vector.{Vector}
 use Rattle.conic.specs.declared.Problem.{Problem}
-use Rattle.rows.specs.Rows.{Checked, pass, refuse}
+use Rattle.rows.specs.Rows.{Checked, pass, refuse, onward}
+use Rattle.arc.specs.declared.Way.{Way}
+use Rattle.arc.specs.declared.Way.the-variants as way
+use Rattle.arc.specs.declared.Transfer.{Transfer}
 use Rattle.card.specs.declared.Kind.{Kind}
 use Rattle.card.specs.declared.Kind.the-variants as kind
 
@@ -17,29 +20,35 @@ pub record Card : Type 0 where
   pub kind : Kind
   pub body : List ℕ
 
--- The deck 5 and 6: the kind that 1 or 2 names; another number is refused with 34
+-- The deck 5 to 7: the kind that 1, 2 or 3 names; another number is refused with 34
 unfoldable pub kindOf : ℕ → Checked Kind
-kindOf n = cond (eqb n 1) (pass kind.Solved) (cond (eqb n 2) (pass kind.Refused) (refuse 34))
+kindOf n = cond (eqb n 1) (pass kind.Solved) (cond (eqb n 2) (pass kind.Refused) (cond (eqb n 3) (pass kind.Transfer) (refuse 34)))
 
 -- and the number that stands for a kind
 unfoldable pub kindNumber : Kind → ℕ
 kindNumber kind.Solved = 1
 kindNumber kind.Refused = 2
+kindNumber kind.Transfer = 3
 
--- The deck 4: the bytes of a problem before its spare, and those of a spare
+-- The deck 4 and 7: the bytes with which every body begins, mu, two vectors, a time and a limit; and those of a spare
 abbrev pub problemSize : ℕ
 problemSize = 68
 
 abbrev pub spareSize : ℕ
 spareSize = 4
 
--- The deck 5 and 6: the bytes of an answer, without a spare; a solved card's is the largest
+-- Lines 1: the bytes of a transfer: these, and the way
+abbrev pub transferSize : ℕ
+transferSize = problemSize + 4
+
+-- The deck 5 to 7: the bytes of what stands behind these, without a spare; a solved card's are the most
 abbrev pub largestAnswer : ℕ
 largestAnswer = 56
 
 unfoldable pub answerSize : Kind → ℕ
 answerSize kind.Solved = largestAnswer
 answerSize kind.Refused = 4
+answerSize kind.Transfer = 36
 
 -- Writing a deck 2: the bytes of a card's fields without a spare, and of the largest
 abbrev pub packedSize : Kind → ℕ
@@ -48,13 +57,14 @@ packedSize kind = problemSize + answerSize kind
 abbrev pub largestFields : ℕ
 largestFields = problemSize + largestAnswer
 
--- The deck 5 and 6: the bytes of a body; a solved card's is the largest
+-- The deck 5 to 7: the bytes of a body; a solved card's is the largest
 abbrev pub largestBody : ℕ
 largestBody = 128
 
 unfoldable pub sizeOf : Kind → ℕ
 sizeOf kind.Solved = largestBody
 sizeOf kind.Refused = 80
+sizeOf kind.Transfer = 104
 
 -- the number that stands in a body from index `at` on, and a vector of three
 abbrev pub numberAt : List ℕ → (at : ℕ) → Float
@@ -70,6 +80,19 @@ problemOf body = record { mu = numberAt body 0; r = vectorAt body 8; v = vectorA
 abbrev pub spareOf : List ℕ → ℕ
 spareOf body = valueAt spareSize body problemSize
 
+-- The deck 7: the way that 0 or 1 names; another number is refused with 23
+unfoldable pub wayOf : ℕ → Checked Way
+wayOf n = cond (eqb n 0) (pass way.Short) (cond (eqb n 1) (pass way.Long) (refuse 23))
+
+-- The deck 7: mu, r1, r2, dt, limit u32 stand where a problem has mu, r, v, dt, limit; then the way, u32
+abbrev pub transferBy : List ℕ → Way → Transfer
+transferBy body w = let p = problemOf body in record { mu = p .mu; r1 = p .r; r2 = p .v; dt = p .dt; limit = p .limit; way = w }
+
+unfoldable pub transferOf : List ℕ → Checked Transfer
+transferOf body =
+    onward (wayOf (valueAt 4 body problemSize)) (λ w.
+    pass (transferBy body w))
+
 -- The deck 5 and 6: where the answer begins
 abbrev pub answerAt : ℕ
 answerAt = problemSize + spareSize
@@ -83,6 +106,13 @@ positionAt = answerAt + 8
 
 abbrev pub velocityAt : ℕ
 velocityAt = positionAt + 24
+
+-- The deck 7: z, and where the velocity begins
+abbrev pub zOf : List ℕ → Float
+zOf body = numberAt body answerAt
+
+abbrev pub departureAt : ℕ
+departureAt = answerAt + 8
 
 -- The deck 6: the refusal's number and the last spare
 abbrev pub refusalOf : List ℕ → ℕ

@@ -27,14 +27,22 @@ problemBytes p = numbersBytes (p .mu ∷ p .r .x ∷ p .r .y ∷ p .r .z ∷ p .
 abbrev pub spare : List ℕ
 spare = bytesOf spareSize 0
 
--- The deck 4 to 6: a body: the problem, its spare, the answer, and the last spare of a refused card
+-- The deck 4 to 7: a body: what every body begins with, the spare, the answer, and the last spare of a refused card. A transfer has no spare; its
+-- way stands in the spare's place, and counts with the answer here
 abbrev pub bodyOf : Kind → (given answer : List ℕ) → List ℕ
 bodyOf kind.Solved given answer = given ++ (spare ++ answer)
 bodyOf kind.Refused given answer = given ++ (spare ++ (answer ++ spare))
+bodyOf kind.Transfer given answer = given ++ answer
+
+-- where what stands behind the first spare begins
+unfoldable pub answerFrom : Kind → ℕ
+answerFrom kind.Solved = answerAt
+answerFrom kind.Refused = answerAt
+answerFrom kind.Transfer = problemSize
 
 -- Writing a deck 2: the fields in a body, without its spares; and the body that has these fields
 abbrev pub fieldsIn : Kind → (body : List ℕ) → List ℕ
-fieldsIn kind body = take problemSize body ++ take (answerSize kind) (drop answerAt body)
+fieldsIn kind body = take problemSize body ++ take (answerSize kind) (drop (answerFrom kind) body)
 
 abbrev pub bodyFrom : Kind → (fields : List ℕ) → List ℕ
 bodyFrom kind fields = bodyOf kind (take problemSize fields) (drop problemSize fields)

@@ -3,25 +3,30 @@
 //
 // What was sent is read as words, and computed with as the numbers that they stand for. Every
 // function here is proved, the public ones are total, and the crate assumes nothing.
+use arc::Transfer;
+use arc::Way;
 use conic::Problem;
 use vectors::Vector;
 ghost use mathlib.Core.Path.{_≡_};
 ghost use Prim.Native.Nat.{_≤_};
-ghost use Rattle.card.specs.Fields.{kindOf, kindNumber, sizeOf, packedSize, numberAt, vectorAt, problemOf};
-ghost use Rattle.card.specs.Said.{named};
+ghost use Rattle.card.specs.Fields.{kindOf, kindNumber, sizeOf, packedSize, numberAt, vectorAt, problemOf, transferBy, transferOf};
+ghost use Rattle.card.specs.Said.{named, asked};
 
-// A problem's bytes, and those of a spare; those of a body and of its fields without a spare, at most:
-// a solved card's.
+// The bytes with which every body begins, a problem's, and those of a spare; those of a body and of its
+// fields without a spare, at most: a solved card's.
 pub const PROBLEM: usize = 68;
 
 const SPARE_SIZE: usize = 4;
+
+// And those of a transfer, with its way.
+pub const TRANSFER: usize = PROBLEM + 4;
 
 pub const BODY: usize = 128;
 
 pub const FIELDS: usize = 124;
 
-// Where the fields of a body begin behind the problem: its spare; of a solved card x, position and
-// velocity; of a refused one the number and a spare.
+// Where the fields of a body begin behind these: the spare, or a transfer's way; of a solved card x,
+// position and velocity; of a refused one the number and a spare; of a transfer z and velocity.
 pub const SPARE: usize = PROBLEM;
 
 pub const X: usize = SPARE + SPARE_SIZE;
@@ -34,15 +39,27 @@ pub const NUMBER: usize = X;
 
 pub const LAST_SPARE: usize = NUMBER + 4;
 
+pub const Z: usize = X;
+
+pub const DEPARTURE: usize = Z + 8;
+
+// A card's kind: a solved problem, a refused one, or a solved transfer.
 pub enum Kind {
     Solved,
     Refused,
+    Transfer,
 }
 
 // What a number names: a kind, or none.
 pub enum Named {
     Kind(Kind),
     Unknown,
+}
+
+// What a transfer's bytes ask: a transfer, or one whose way is neither 0 nor 1.
+pub enum Asked {
+    Transfer(Transfer),
+    UnknownWay,
 }
 
 impl Kind {
@@ -53,6 +70,7 @@ impl Kind {
         match self {
             Kind::Solved => 1,
             Kind::Refused => 2,
+            Kind::Transfer => 3,
         }
     }
 
@@ -63,6 +81,7 @@ impl Kind {
         match self {
             Kind::Solved => FIELDS,
             Kind::Refused => 72,
+            Kind::Transfer => 104,
         }
     }
 
@@ -73,6 +92,7 @@ impl Kind {
         match self {
             Kind::Solved => BODY,
             Kind::Refused => 80,
+            Kind::Transfer => 104,
         }
     }
 }
@@ -84,6 +104,7 @@ pub fn kind_of(number: u32) -> Named
     match number {
         1 => Named::Kind(Kind::Solved),
         2 => Named::Kind(Kind::Refused),
+        3 => Named::Kind(Kind::Transfer),
         _ => Named::Unknown,
     }
 }
@@ -105,6 +126,31 @@ pub fn problem(body: &[u8]) -> Problem
         v: vector(body, 32),
         dt: number(body, 56),
         limit: words::half(body, 64),
+    }
+}
+
+// The transfer with which a body begins, as numbers: every NaN word gives NaN.
+pub fn transfer(body: &[u8]) -> Asked
+    ensures { λ r. ⌜ asked r ≡ transferOf (now (body .entry)) ⌝ }
+{
+    match words::half(body, SPARE) {
+        0 => Asked::Transfer(by_way(body, Way::Short)),
+        1 => Asked::Transfer(by_way(body, Way::Long)),
+        _ => Asked::UnknownWay,
+    }
+}
+
+fn by_way(body: &[u8], way: Way) -> Transfer
+    ensures { λ r. ⌜ r ≡ transferBy (now (body .entry)) way ⌝ }
+{
+    let p = problem(body);
+    Transfer {
+        mu: p.mu,
+        r1: p.r,
+        r2: p.v,
+        dt: p.dt,
+        limit: p.limit,
+        way,
     }
 }
 

@@ -23,7 +23,8 @@ use Rattle.root.specs.Root.{radicand, sumInSteps, Nearest}
 use Rattle.root.proofs.Whole.{square-le}
 use Rattle.root.proofs.Theorems.{definition-holds}
 use Rattle.rows.specs.Rows.{pass, onward}
-use Rattle.entry.specs.Entry.{rooted, sixtyFourth, sixtyFour, eight, farEndOf}
+use Rattle.units.specs.Units.{rooted}
+use Rattle.entry.specs.Entry.{sixtyFourth, sixtyFour, eight, farEndOf}
 
 -- ---- the closed numbers
 

@@ -1,4 +1,3 @@
-pub mod Rooted
 pub mod Refusals
 pub mod Passed
 pub mod AtZero

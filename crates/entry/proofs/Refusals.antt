@@ -2,24 +2,14 @@
 -- (`must-refuses`, `onward-refuses`) follow the definitions line by line.
 use lib.Ieee.{Float, le}
 use Rattle.exact.specs.Numbers.{magnitude}
-use Rattle.root.specs.Said as root
-use Rattle.root.specs.Root.{rootOf}
 use Rattle.vectors.specs.declared.Vector.{Vector}
 use Rattle.conic.specs.declared.Problem.{Problem}
 use Rattle.conic.specs.declared.Scaled.{Scaled}
-use Rattle.entry.specs.Entry.{inputsTested, fromRoot, rooted, testedBy, scaledBy, scaledOf, sixtyFourth, farEndOf, bracketedBy, startOf, entryOf}
+use Rattle.entry.specs.Entry.{inputsTested, testedBy, scaledBy, scaledOf, sixtyFourth, farEndOf, bracketedBy, startOf, entryOf}
 use Rattle.units.specs.Units.{radiusOf, unitOf}
-use Rattle.units.proofs.Refusals.{measure-refuses}
+use Rattle.units.proofs.Refusals.{root-refuses, measure-refuses}
 use Rattle.conic.proofs.Arrival.{Numbered}
-use Rattle.rows.proofs.Laws.{Refuses, passes, refuses, must-refuses, cond-refuses, onward-refuses}
-
-from-root : (a : root.Said) → Refuses Numbered (fromRoot a)
-from-root (root.root x) = passes
-from-root (root.refused k) = refuses tt
-
-root-refuses : (x : Float) → Refuses Numbered (rooted x)
-unfolding rooted
-root-refuses x = from-root (rootOf x)
+use Rattle.rows.proofs.Laws.{Refuses, passes, must-refuses, cond-refuses, onward-refuses}
 
 inputs-refuse : (mu : Float) (r v : Vector) (last : Float) → Refuses Numbered (inputsTested mu r v last)
 unfolding inputsTested
@@ -39,7 +29,7 @@ scaled-refuses mu r v dt = onward-refuses _ _ (measure-refuses 5 14 (radiusOf r)
 
 far-end-refuses : (alpha : Float) → Refuses Numbered (farEndOf alpha)
 unfolding farEndOf
-far-end-refuses alpha = cond-refuses (le (magnitude alpha) sixtyFourth) _ _ passes (onward-refuses _ _ (root-refuses _) (λ k. passes))
+far-end-refuses alpha = cond-refuses (le (magnitude alpha) sixtyFourth) _ _ passes (onward-refuses _ _ (root-refuses 14 _ tt) (λ k. passes))
 
 bracket-refuses : (o : Scaled) (far : Float) → Refuses Numbered (bracketedBy o far)
 unfolding bracketedBy

@@ -3,17 +3,15 @@
 use mathlib.Core.Bool.{Bool, cond, not, _&&_}
 use lib.Ieee.{Float, lt, le, neg}
 use Rattle.exact.specs.Numbers.{_⊕_, _⊖_, _⊗_, _⊘_, numberOf, nought, two, isFinite, magnitude}
-use Rattle.root.specs.Said as root
-use Rattle.root.specs.Root.{rootOf}
 use Rattle.search.specs.declared.Point.{Point}
 use Rattle.search.specs.declared.Bracket.{Bracket}
 use Rattle.vectors.specs.declared.Vector.{Vector}
 use Rattle.conic.specs.declared.Problem.{Problem}
 use Rattle.conic.specs.declared.Scaled.{Scaled}
-use Rattle.rows.specs.Rows.{Checked, pass, refuse, must, onward}
+use Rattle.rows.specs.Rows.{Checked, pass, must, onward}
 use Rattle.search.specs.Search.{limitAllowed}
 use Rattle.vectors.specs.Vectors.{allFinite, multiple, dot, over}
-use Rattle.units.specs.Units.{givenFinite, radiusOf, unitOf, numbered}
+use Rattle.units.specs.Units.{givenFinite, radiusOf, unitOf, rooted, numbered}
 use Rattle.conic.specs.TimeAndRatio.{timeAt}
 
 -- 1, then 2, mu ≤ 0: the tests that Kepler and Theta begin with
@@ -22,14 +20,6 @@ inputsTested mu r v last =
     must (givenFinite mu r v last) 1
     (must (lt nought mu) 2
     (pass tt))
-
--- refusal 14: a root on the way was refused
-abbrev pub fromRoot : root.Said → Checked Float
-fromRoot (root.root x) = pass x
-fromRoot (root.refused k) = refuse 14
-
-unfoldable pub rooted : Float → Checked Float
-rooted x = fromRoot (rootOf x)
 
 -- 2^-20
 abbrev pub straight : Float
@@ -71,9 +61,9 @@ sixtyFour = numberOf 0x4050_0000_0000_0000
 abbrev pub eight : Float
 eight = numberOf 0x4020_0000_0000_0000
 
--- scaling 10: X is 64 where |alpha| ≤ 1/64, else 8/root(|alpha|)
+-- scaling 10: X is 64 where |alpha| ≤ 1/64, else 8/root(|alpha|). Refusal 14 where that root is refused
 unfoldable pub farEndOf : (alpha : Float) → Checked Float
-farEndOf alpha = cond (le (magnitude alpha) sixtyFourth) (pass sixtyFour) (onward (rooted (magnitude alpha)) (λ k. pass (eight ⊘ k)))
+farEndOf alpha = cond (le (magnitude alpha) sixtyFourth) (pass sixtyFour) (onward (rooted 14 (magnitude alpha)) (λ k. pass (eight ⊘ k)))
 
 -- scaling 11: from 0 to X forwards, from -X to 0 backwards. The search: beside the end 0 stands the time 0, beside the far end its T
 abbrev pub zeroEnd : Point

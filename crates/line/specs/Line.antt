@@ -9,8 +9,13 @@ use Rattle.conic.specs.declared.Problem.{Problem}
 use Rattle.conic.specs.Said as conic
 use Rattle.kepler.specs.Kepler.{keplerOf}
 use Rattle.theta.specs.Theta.{thetaOf}
-use Rattle.card.specs.Fields.{problemSize, numberAt, problemOf}
-use Rattle.outcomes.specs.Outcomes.{outcomeLine, mostOutcome}
+use Rattle.rows.specs.Rows.{Checked, pass, refuse}
+use Rattle.search.specs.Answers.{refused}
+use Rattle.arc.specs.declared.Transfer.{Transfer}
+use Rattle.lambert.specs.Said as lambert
+use Rattle.lambert.specs.Lambert.{lambertOf}
+use Rattle.card.specs.Fields.{problemSize, transferSize, numberAt, problemOf, transferOf}
+use Rattle.outcomes.specs.Outcomes.{outcomeLine, transferLine, mostOutcome}
 use Rattle.line.specs.declared.Question.{Question}
 use Rattle.line.specs.declared.Question.the-variants as question
 
@@ -19,6 +24,7 @@ abbrev pub widthOf : Question → ℕ
 widthOf question.Root = 8
 widthOf question.Kepler = problemSize
 widthOf question.Theta = 64
+widthOf question.Transfer = transferSize
 
 -- Lines 2: `root WORD` or `refused NUMBER`
 abbrev pub rootLine : root.Said → List ℕ
@@ -29,15 +35,21 @@ rootLine (root.refused k) = joined (text "refused" ∷ count k ∷ text "\n" ∷
 abbrev pub turned : Problem → conic.Said
 turned p = thetaOf (p .mu) (p .r) (p .v) (p .dt)
 
--- Lines 1 to 3: what is asked of the record, and its answer's line
+-- Lines 4: a transfer's answer; for a way that is none the refusal 23, with the count 0
+abbrev pub transferred : Checked Transfer → lambert.Said
+transferred (pass q) = lambertOf q
+transferred (refuse k) = refused k 0
+
+-- Lines 1 to 4: what is asked of the record, and its answer's line
 unfoldable pub lineOf : Question → (bytes : List ℕ) → List ℕ
 lineOf question.Root bytes = rootLine (rootOf (numberAt bytes 0))
 lineOf question.Kepler bytes = outcomeLine (keplerOf (problemOf bytes))
 lineOf question.Theta bytes = outcomeLine (turned (problemOf bytes))
+lineOf question.Transfer bytes = transferLine (transferred (transferOf bytes))
 
 -- no record has more bytes
 abbrev pub mostWidth : ℕ
-mostWidth = problemSize
+mostWidth = transferSize
 
 -- no line has more bytes
 abbrev pub mostLine : ℕ

@@ -1,14 +1,19 @@
-// The line of one record, as `predict`, `turn` and `roots` write it. docs/RULES.md, Lines.
+// The line of one record, as `predict`, `turn`, `transfer` and `roots` write it. docs/RULES.md, Lines.
 //
-// A record is what one question takes: eight bytes for a root, 68 for Kepler, 64 for Theta. Every
+// A record is what one question takes: eight bytes for a root, 68 for Kepler, 64 for
+// Theta, 72 for a transfer. Every
 // function here is proved and total, and the crate assumes nothing.
+use card::Asked;
 use conic::Outcome;
 use conic::Problem;
 use root::Answer;
+use ruling::Fault;
 ghost use mathlib.Core.Path.{_≡_};
 ghost use Rattle.pieces.specs.Pieces.{putIn, endIn, Put};
 ghost use Rattle.root.specs.Said as root;
 ghost use Rattle.conic.specs.Said as conic;
+ghost use Rattle.card.specs.Said as card;
+ghost use Rattle.outcomes.specs.Outcomes.{transferLine};
 ghost use Rattle.line.specs.Line as line;
 
 // What is asked of each record.
@@ -16,6 +21,7 @@ pub enum Question {
     Root,
     Kepler,
     Theta,
+    Transfer,
 }
 
 // The bytes of one record.
@@ -26,6 +32,7 @@ pub fn width(asked: Question) -> usize
         Question::Root => 8,
         Question::Kepler => card::PROBLEM,
         Question::Theta => 64,
+        Question::Transfer => card::TRANSFER,
     }
 }
 
@@ -38,6 +45,7 @@ pub fn line(asked: Question, s: &[u8], out: &mut [u8], at: usize) -> usize
         Question::Root => root_line(root::root(card::number(s, 0)), out, at),
         Question::Kepler => outcomes::put(kepler::kepler(card::problem(s)), out, at),
         Question::Theta => outcomes::put(turned(card::problem(s)), out, at),
+        Question::Transfer => transfer_line(card::transfer(s), out, at),
     }
 }
 
@@ -46,6 +54,16 @@ fn turned(p: Problem) -> Outcome
     ensures { λ r. ⌜ conic.said r ≡ line.turned p ⌝ }
 {
     theta::theta(p.mu, p.r, p.v, p.dt)
+}
+
+// The line of a transfer; a way that is neither 0 nor 1 is refused.
+fn transfer_line(asked: Asked, out: &mut [u8], at: usize) -> usize
+    ensures { λ r. ⌜ Put (now (out .entry)) at (transferLine (line.transferred (card.asked asked))) (now (out .exit)) r ⌝ }
+{
+    match asked {
+        Asked::Transfer(q) => outcomes::put_transfer(lambert::lambert(q), out, at),
+        Asked::UnknownWay => outcomes::refused(Fault::WordNotAllowed.number(), 0, out, at),
+    }
 }
 
 // `root WORD` or `refused NUMBER`.

@@ -13,7 +13,7 @@ ghost use Rattle.lines.specs.Lines.{linesOf, mostBlock, mostBlocks, mostText};
 const BLOCKS: u64 = 0xffff_ffff_ffff_ffff;
 
 // The bytes of a block of the longest records.
-const SPACE: usize = 4352;
+const SPACE: usize = 4608;
 
 // Answers standard input on standard output, until it ends or nothing more can be written.
 pub fn list(asked: Question) {

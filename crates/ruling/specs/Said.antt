@@ -13,7 +13,7 @@ abbrev pub faultNumber : Fault → ℕ
 faultNumber fault.XOutside = 20
 faultNumber fault.TimeOff = 21
 faultNumber fault.StateDiffers = 22
-faultNumber fault.SpareNotZero = 23
+faultNumber fault.WordNotAllowed = 23
 faultNumber fault.NumberDiffers = 24
 
 -- Tally 1 and 2: accepted as solved, with the residual |T - t|; accepted as refused; rejected, with a number that is not 0

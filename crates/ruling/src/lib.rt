@@ -5,12 +5,13 @@
 ghost use mathlib.Core.Path.{_≡_};
 ghost use Rattle.ruling.specs.Said.{faultNumber, reasonNumber, said, numberIn};
 
-// Why a card is rejected, besides the reasons for which a prediction is refused.
+// Why a card is rejected, besides the reasons for which a prediction is refused. The word that is not
+// allowed is a spare that is not 0, or a way that is neither 0 nor 1.
 pub enum Fault {
     XOutside,
     TimeOff,
     StateDiffers,
-    SpareNotZero,
+    WordNotAllowed,
     NumberDiffers,
 }
 
@@ -30,7 +31,7 @@ impl Fault {
             Fault::XOutside => 20,
             Fault::TimeOff => 21,
             Fault::StateDiffers => 22,
-            Fault::SpareNotZero => 23,
+            Fault::WordNotAllowed => 23,
             Fault::NumberDiffers => 24,
         }
     }

@@ -9,7 +9,8 @@ use Rattle.search.specs.Answers.{withFound}
 use Rattle.conic.specs.Said.{Said}
 use Rattle.universal.specs.Functions.{functionsAt}
 use Rattle.conic.specs.Unfolding.{arrivalOf}
-use Rattle.entry.specs.Entry.{rooted, angleEntryOf}
+use Rattle.units.specs.Units.{rooted}
+use Rattle.entry.specs.Entry.{angleEntryOf}
 
 -- 2^-10
 abbrev pub leastDen : Float
@@ -35,7 +36,7 @@ reachedState o k sh ch =
 unfoldable pub turnedState : Scaled → (a : Float) → Checked State
 turnedState o a =
     let half = functionsAt (a ⊘ two) one in
-    onward (rooted (o .p)) (λ k. reachedState o k (half .u1) (half .u0))
+    onward (rooted 14 (o .p)) (λ k. reachedState o k (half .u1) (half .u0))
 
 -- Theta 7: the angle stands as x, and the count is 0
 unfoldable pub thetaOf : (mu : Float) (r v : Vector) (a : Float) → Said

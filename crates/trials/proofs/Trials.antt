@@ -10,8 +10,8 @@ use Rattle.universal.specs.Series.{coefficients, workedFrom, worked}
 use Rattle.universal.specs.Functions.{functionsAt}
 use Rattle.conic.specs.TimeAndRatio.{timeAt}
 use Rattle.conic.specs.Unfolding.{unfolded, arrivalOf, arrivalAt}
-use Rattle.units.specs.Units.{radiusOf, unitOf}
-use Rattle.entry.specs.Entry.{inputsTested, rooted, testedBy, scaledBy, scaledOf, farEndOf, bracketedBy, startOf, entryOf}
+use Rattle.units.specs.Units.{radiusOf, unitOf, rooted}
+use Rattle.entry.specs.Entry.{inputsTested, testedBy, scaledBy, scaledOf, farEndOf, bracketedBy, startOf, entryOf}
 use Rattle.kepler.specs.Kepler.{keplerOf}
 use Rattle.spelled.specs.Spelled.{bytesOf}
 use Rattle.words.specs.Words.{value, valueAt, wordsBytes}

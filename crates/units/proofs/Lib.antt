@@ -1,3 +1,4 @@
+pub mod Rooted
 pub mod Refusals
 pub mod Theorems
 pub mod Fixed

@@ -42,7 +42,15 @@ unitOf mu r0 =
     (afterRoot (rootOf (r0 ⊘ mu)) (λ f1. cond (isUsable f1 && isUsable (r0 ⊗ f1)) (measured (f1, r0 ⊗ f1)) unusable))
     unusable
 
--- in a row of tests: k is the number of what is not usable, j that of a refused root
+-- a root in a row of tests: j is the number with which the row refuses where the root does
+abbrev pub fromRoot : (j : ℕ) → root.Said → Checked Float
+fromRoot j (root.root x) = pass x
+fromRoot j (root.refused k) = refuse j
+
+unfoldable pub rooted : (j : ℕ) → Float → Checked Float
+rooted j x = fromRoot j (rootOf x)
+
+-- what was measured in a row of tests: k is the number of what is not usable, j that of a refused root
 abbrev pub numbered : {A : Type 0} (k j : ℕ) → Measured A → Checked A
 numbered k j (measured x) = pass x
 numbered k j unusable = refuse k

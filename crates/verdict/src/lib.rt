@@ -42,7 +42,7 @@ fn solved(body: &[u8]) -> Verdict
     ensures { λ r. ⌜ said r ≡ asSolved (solvedCard (now (body .entry))) ⌝ }
 {
     if words::half(body, SPARE) != 0 {
-        return Verdict::Rejected(Fault::SpareNotZero.number());
+        return Verdict::Rejected(Fault::WordNotAllowed.number());
     }
     let start = entry::entry(card::problem(body));
     let Start::Passed(o, b) = start else {
@@ -109,7 +109,7 @@ fn refused(body: &[u8]) -> Verdict
     ensures { λ r. ⌜ said r ≡ asRefused (refusedCard (now (body .entry))) ⌝ }
 {
     if !((words::half(body, SPARE) == 0) & (words::half(body, LAST_SPARE) == 0)) {
-        return Verdict::Rejected(Fault::SpareNotZero.number());
+        return Verdict::Rejected(Fault::WordNotAllowed.number());
     }
     if !gives(
         kepler::kepler(card::problem(body)),

@@ -3,7 +3,7 @@ use mathlib.Core.Path.{refl}
 use borrow.Author.Needs.{needs}
 use Rattle.rows.specs.Rows.{onward}
 use Rattle.entry.specs.Entry.{farEndOf}
-use Rattle.entry.proofs.Rooted.{root-given, root-refused}
+use Rattle.units.proofs.Rooted.{root-given, root-refused}
 use Rattle.entry.proofs.far_end.Statement.{statement}
 use Rattle.entry.proofs.far_end.Tie as tie
 
@@ -13,11 +13,11 @@ returns c = rw (← c .before .absolute .ensures, c .if1 .taken) refl
 
 returns-2 : tie.Need-returns-2
 unfolding onward farEndOf
-returns-2 c = rw (← c .before .before .before .before .absolute .ensures, c .before .before .before .if1 .left, root-refused (c .before .before .before .before .absolute .result) (c .enum-told .given .0 .0) (c .before .before .root .result) (c .before .before .root .ensures) (c .enum-told .given .1)) refl
+returns-2 c = rw (← c .before .before .before .before .absolute .ensures, c .before .before .before .if1 .left, root-refused 14 (c .before .before .before .before .absolute .result) (c .enum-told .given .0 .0) (c .before .before .root .result) (c .before .before .root .ensures) (c .enum-told .given .1)) refl
 
 returns-3 : tie.Need-returns-3
 unfolding onward farEndOf
-returns-3 c = rw (← c .before .before .before .before .before .absolute .ensures, c .before .before .before .before .if1 .left, root-given (c .before .before .before .before .before .absolute .result) (c .before .k .given .0 .0) (c .before .before .before .root .result) (c .before .before .before .root .ensures) (c .before .k .given .1)) refl
+returns-3 c = rw (← c .before .before .before .before .before .absolute .ensures, c .before .before .before .before .if1 .left, root-given 14 (c .before .before .before .before .before .absolute .result) (c .before .k .given .0 .0) (c .before .before .before .root .result) (c .before .before .before .root .ensures) (c .before .k .given .1)) refl
 
 pub far-end-spec : {M : Type 1} → statement M
 far-end-spec = tie.close (tie.spec (λ c κs. search needs) returns (λ c κs. search needs) (λ c. search needs) (λ c. search needs) returns-2 returns-3)

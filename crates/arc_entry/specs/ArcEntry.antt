@@ -1,0 +1,75 @@
+-- The tests of a transfer before the first guess and what they compute: STEPS, Required velocity 1 to 7 and 14, with the refusals in their
+-- order. Definitions only.
+use mathlib.Core.Bool.{cond, not, _&&_}
+use lib.Ieee.{Float, lt, neg}
+use Rattle.exact.specs.Numbers.{_⊕_, _⊖_, _⊗_, _⊘_, numberOf, nought, one, isFinite, magnitude}
+use Rattle.rows.specs.Rows.{Checked, pass, must, onward}
+use Rattle.search.specs.declared.Bracket.{Bracket}
+use Rattle.search.specs.Search.{limitAllowed}
+use Rattle.vectors.specs.Vectors.{allFinite, dot, over}
+use Rattle.units.specs.Units.{givenFinite, radiusOf, unitOf, rooted, numbered}
+use Rattle.arc.specs.declared.Way.{Way}
+use Rattle.arc.specs.declared.Way.the-variants as way
+use Rattle.arc.specs.declared.Transfer.{Transfer}
+use Rattle.arc.specs.declared.Scaled.{Scaled}
+use Rattle.arc.specs.Arc.{timeAt}
+
+-- 2^-20
+abbrev pub nearest : Float
+nearest = numberOf 0x3eb0_0000_0000_0000
+
+-- 7: A, or -A for the long way
+abbrev pub signed : Way → Float → Float
+signed way.Short k = k
+signed way.Long k = neg k
+
+-- 50 where 1 - |c| < 2^-20; 6 where the root is refused. 7: A = root(rho*(1 + c))
+unfoldable pub factorOf : Way → (rho c : Float) → Checked Float
+factorOf w rho c =
+    must (not (lt (one ⊖ magnitude c) nearest)) 50
+    (onward (rooted 6 (rho ⊗ (one ⊕ c))) (λ k.
+    pass (signed w k)))
+
+-- 3: 6 for the units. 4 to 6: 6 where one of t, u, e, d, rho, c is not finite; then A
+unfoldable pub scaledFrom : Transfer → (r0 m2 : Float) → Checked Scaled
+scaledFrom q r0 m2 =
+    onward (numbered 6 6 (unitOf (q .mu) r0)) (λ f.
+    let t = q .dt ⊘ f .1 in
+    let rho = m2 ⊘ r0 in
+    let u = over (q .r1) r0 in
+    let e = over (q .r2) m2 in
+    let d = over (q .r2) r0 in
+    let c = dot u e in
+    must (isFinite t && allFinite u && allFinite e && allFinite d && isFinite rho && isFinite c) 6
+    (onward (factorOf (q .way) rho c) (λ a.
+    pass (record { t = t; rho = rho; a = a; f1 = f .0; f4 = f .1; u = u; d = d }))))
+
+-- 1 and 2: 5 for either radius; 6 where its root is refused
+unfoldable pub scaledOf : Transfer → Checked Scaled
+scaledOf q =
+    onward (numbered 5 6 (radiusOf (q .r1))) (λ r0.
+    onward (numbered 5 6 (radiusOf (q .r2))) (λ m2.
+    scaledFrom q r0 m2))
+
+abbrev pub thirtySix : Float
+thirtySix = numberOf 0x4042_0000_0000_0000
+
+-- 14: the starting bracket, each end with its own T. 6 where T(0) is not finite, 51 where t < T(0), the same 6 for T(36), 52 where t > T(36)
+abbrev pub startingBracket : Scaled → Bracket
+startingBracket o = record { lo = record { x = nought; time = timeAt o nought }; hi = record { x = thirtySix; time = timeAt o thirtySix } }
+
+unfoldable pub startOf : Scaled → Checked (Scaled × Bracket)
+startOf o =
+    must (isFinite (timeAt o nought)) 6
+    (must (not (lt (o .t) (timeAt o nought))) 51
+    (must (isFinite (timeAt o thirtySix)) 6
+    (must (not (lt (timeAt o thirtySix) (o .t))) 52
+    (pass (o, startingBracket o)))))
+
+-- 1, 2 and 3, then the tests above
+unfoldable pub entryOf : Transfer → Checked (Scaled × Bracket)
+entryOf q =
+    must (givenFinite (q .mu) (q .r1) (q .r2) (q .dt)) 1
+    (must (lt nought (q .mu)) 2
+    (must (limitAllowed (q .limit)) 3
+    (onward (scaledOf q) startOf)))
