@@ -30,11 +30,10 @@ factorOf w rho c =
     (onward (rooted 6 (rho ⊗ (one ⊕ c))) (λ k.
     pass (signed w k)))
 
--- 3: 6 for the units. 4 to 6: 6 where one of t, u, e, d, rho, c is not finite; then A
-unfoldable pub scaledFrom : Transfer → (r0 m2 : Float) → Checked Scaled
-scaledFrom q r0 m2 =
-    onward (numbered 6 6 (unitOf (q .mu) r0)) (λ f.
-    let t = q .dt ⊘ f .1 in
+-- 4 to 6: 6 where one of t, u, e, d, rho, c is not finite; then A
+unfoldable pub scaledBy : Transfer → (r0 m2 f1 f4 : Float) → Checked Scaled
+scaledBy q r0 m2 f1 f4 =
+    let t = q .dt ⊘ f4 in
     let rho = m2 ⊘ r0 in
     let u = over (q .r1) r0 in
     let e = over (q .r2) m2 in
@@ -42,7 +41,13 @@ scaledFrom q r0 m2 =
     let c = dot u e in
     must (isFinite t && allFinite u && allFinite e && allFinite d && isFinite rho && isFinite c) 6
     (onward (factorOf (q .way) rho c) (λ a.
-    pass (record { t = t; rho = rho; a = a; f1 = f .0; f4 = f .1; u = u; d = d }))))
+    pass (record { t = t; rho = rho; a = a; f1 = f1; f4 = f4; u = u; d = d })))
+
+-- 3: 6 for the units
+unfoldable pub scaledFrom : Transfer → (r0 m2 : Float) → Checked Scaled
+scaledFrom q r0 m2 =
+    onward (numbered 6 6 (unitOf (q .mu) r0)) (λ f.
+    scaledBy q r0 m2 (f .0) (f .1))
 
 -- 1 and 2: 5 for either radius; 6 where its root is refused
 unfoldable pub scaledOf : Transfer → Checked Scaled

@@ -16,7 +16,7 @@ use vectors::Vector;
 ghost use mathlib.Core.Path.{_≡_};
 ghost use Rattle.units.specs.Units.{radiusOf, numbered};
 ghost use Rattle.arc_entry.specs.Said.{passedNumber, passedScaled, passedStart};
-ghost use Rattle.arc_entry.specs.ArcEntry.{factorOf, scaledFrom, scaledOf, startOf, entryOf};
+ghost use Rattle.arc_entry.specs.ArcEntry.{factorOf, scaledBy, scaledFrom, scaledOf, startOf, entryOf};
 
 // 2^-20: where 1 - |c| is less, the angle is too near 0, 180 or 360 degrees.
 const NEAREST: f64 = 9.5367431640625e-07;
@@ -89,9 +89,17 @@ fn radius(r: Vector) -> Number
 fn scale_from(q: Transfer, r0: f64, m2: f64) -> Scaling
     ensures { λ x. ⌜ passedScaled x ≡ scaledFrom q r0 m2 ⌝ }
 {
-    let TimeUnit::Measured(f1, f4) = units::time_unit(q.mu, r0) else {
-        return Scaling::Refused(Reason::NotFinite);
-    };
+    match units::time_unit(q.mu, r0) {
+        TimeUnit::Unusable => Scaling::Refused(Reason::NotFinite),
+        TimeUnit::RootRefused => Scaling::Refused(Reason::NotFinite),
+        TimeUnit::Measured(f1, f4) => scale_by(q, r0, m2, f1, f4),
+    }
+}
+
+fn scale_by(q: Transfer, r0: f64, m2: f64, f1: f64, f4: f64) -> Scaling
+    ensures { λ x. ⌜ passedScaled x ≡ scaledBy q r0 m2 f1 f4 ⌝ }
+{
+    let way = q.way;
     let t = q.dt / f4;
     let rho = m2 / r0;
     let u = vectors::divided(q.r1, r0);
@@ -106,7 +114,7 @@ fn scale_from(q: Transfer, r0: f64, m2: f64) -> Scaling
         & exact::finite(c)) {
         return Scaling::Refused(Reason::NotFinite);
     }
-    match factor(q.way, rho, c) {
+    match factor(way, rho, c) {
         Number::Refused(why) => Scaling::Refused(why),
         Number::Passed(a) => Scaling::Passed(Scaled {
             t,
@@ -140,18 +148,19 @@ fn factor(way: Way, rho: f64, c: f64) -> Number
 fn started(o: Scaled) -> Start
     ensures { λ x. ⌜ passedStart x ≡ startOf o ⌝ }
 {
+    let t = o.t;
     let first = o.time_at(0.0);
     if !exact::finite(first) {
         return Start::Refused(Reason::NotFinite);
     }
-    if o.t < first {
+    if t < first {
         return Start::Refused(Reason::TooLittleTime);
     }
     let last = o.time_at(UPPER);
     if !exact::finite(last) {
         return Start::Refused(Reason::NotFinite);
     }
-    if last < o.t {
+    if last < t {
         return Start::Refused(Reason::TooMuchTime);
     }
     let lo = Point {

@@ -1,21 +1,17 @@
--- What fits binary64, NaN and infinities included: the numbers of a vector, a state, a problem. The time and the state at x do, since each
+-- What fits binary64, NaN and infinities included: the numbers of a state and of a problem. The time and the state at x do, since each
 -- number is the sum of two.
 use Prim.Native.Nat.{_^_, _<_}
 use lib.Dec.{T}
 use lib.Ieee.{Float, binary64, fits}
 use lib.Ieee.Fits.{add-fits}
 use Rattle.exact.specs.Numbers.{_⊕_, _⊗_}
-use Rattle.vectors.specs.declared.Vector.{Vector}
 use Rattle.conic.specs.declared.State.{State}
 use Rattle.conic.specs.declared.Problem.{Problem}
 use Rattle.conic.specs.declared.Scaled.{Scaled}
-use Rattle.vectors.specs.Vectors.{combined}
+use Rattle.vectors.proofs.Fitting.{VectorFits, combined-fits}
 use Rattle.universal.specs.Functions.{functionsAt}
 use Rattle.conic.specs.TimeAndRatio.{timeAt}
 use Rattle.conic.specs.Unfolding.{unfolded, stateAt}
-
-abbrev pub VectorFits : Vector → Type 0
-VectorFits a = T (fits binary64 (a .x)) × T (fits binary64 (a .y)) × T (fits binary64 (a .z))
 
 abbrev pub StateFits : State → Type 0
 StateFits a = VectorFits (a .r) × VectorFits (a .v)
@@ -31,9 +27,6 @@ pub record ProblemFits (p : Problem) : Type 0 where
 pub time-fits : (o : Scaled) (x : Float) → T (fits binary64 (timeAt o x))
 unfolding timeAt
 time-fits o x = let u = functionsAt x (o .alpha) in add-fits binary64 (u .u1 ⊕ o .s ⊗ u .u2) (u .u3)
-
-combined-fits : (a : Vector) (f : Float) (b : Vector) (g : Float) → VectorFits (combined a f b g)
-combined-fits a f b g = (add-fits binary64 (a .x ⊗ f) (b .x ⊗ g), add-fits binary64 (a .y ⊗ f) (b .y ⊗ g), add-fits binary64 (a .z ⊗ f) (b .z ⊗ g))
 
 pub state-fits : (o : Scaled) (x : Float) → StateFits (stateAt o x)
 unfolding unfolded

@@ -12,7 +12,8 @@ use Rattle.conic.specs.declared.Outcome.{Outcome}
 use Rattle.conic.specs.declared.Outcome.the-variants as outcome
 use Rattle.conic.specs.declared.unfolding.Arrival.{Arrival}
 use Rattle.conic.specs.declared.unfolding.Arrival.the-variants as arrival
-use Rattle.rows.specs.Rows.{Checked, pass, refuse}
+use Rattle.rows.specs.Rows.{Checked}
+use Rattle.rows.proofs.Laws.{takenBack}
 use Rattle.search.specs.Answers.{solved, refused, refusedWithBracket}
 use Rattle.conic.specs.Said.{Said, reasonNumber, said, arrived}
 
@@ -72,8 +73,7 @@ said-once = undone said unsaid unsaid-is
 -- ---- the answers on the way: something passed, or a reason
 
 abbrev pub untold : {A B : Type 0} → (B → A) → (Reason → A) → Checked B → A
-untold passed failed (pass x) = passed x
-untold passed failed (refuse k) = failed (reasonOf k)
+untold passed failed c = takenBack passed (λ k. failed (reasonOf k)) c
 
 unarrived : (a : Arrival) → untold arrival.State arrival.Refused (arrived a) ≡ a
 unarrived (arrival.State state) = refl

@@ -25,6 +25,11 @@ unfolding onward
 row-refused (pass x) value e = absurd (true≢false cc)
 row-refused (refuse n) value e = cc
 
+-- what a row came to, taken back: to what passed, or to what has the number
+abbrev pub takenBack : {A B : Type 0} → (B → A) → (ℕ → A) → Checked B → A
+takenBack passed failed (pass x) = passed x
+takenBack passed failed (refuse k) = failed k
+
 -- a row of tests that passes, or refuses with a number that has P
 pub data Refuses {A : Type 0} (P : ℕ → Type 0) : Checked A → Type 0 where
   passes : {x : A} → Refuses P (pass x)

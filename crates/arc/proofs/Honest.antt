@@ -1,0 +1,74 @@
+-- A root that is refused stands in T(z) as NaN, and that hides nothing: where T(z) is finite, both roots were given (`roots-given`). A NaN goes
+-- through every operation on the way; a k that is NaN makes y NaN, whose root is refused.
+use mathlib.Core.Path.{_≡_, refl, sym, ap, _∙_}
+use mathlib.Core.Logic.{_⊎_, inl, inr}
+use mathlib.Core.Bool.{true, true≢false}
+use lib.Ieee.{Float, nan, inf, fin, add, sub, mul, div}
+use Rattle.exact.specs.Numbers.{_⊕_, _⊖_, _⊗_, _⊘_, one, isFinite}
+use Rattle.root.specs.Said as root
+use Rattle.root.specs.Root.{rootOf}
+use Rattle.root.proofs.Cases.{refuses-not-finite}
+use Rattle.universal.specs.Functions.{functionsAt}
+use Rattle.arc.specs.declared.Scaled.{Scaled}
+use Rattle.arc.specs.Arc.{orNan, rootOrNan, shapeAt, timeAt}
+
+-- ---- a NaN goes through
+
+plus-nan : (x : Float) → x ⊕ nan ≡ nan
+unfolding add
+plus-nan nan = refl
+plus-nan (inf s) = refl
+plus-nan (fin s m e) = refl
+
+minus-nan : (x : Float) → x ⊖ nan ≡ nan
+unfolding sub add
+minus-nan nan = refl
+minus-nan (inf s) = refl
+minus-nan (fin s m e) = refl
+
+times-nan : (x : Float) → x ⊗ nan ≡ nan
+unfolding mul
+times-nan nan = refl
+times-nan (inf s) = refl
+times-nan (fin s m e) = refl
+
+over-nan : (x : Float) → x ⊘ nan ≡ nan
+unfolding div
+over-nan nan = refl
+over-nan (inf s) = refl
+over-nan (fin s m e) = refl
+
+-- ---- both roots
+
+-- a root that was given, or NaN in its place
+given-or-nan : (a : root.Said) → ((r : Float) × (a ≡ root.root r)) ⊎ (orNan a ≡ nan)
+given-or-nan (root.root r) = inl (r, refl)
+given-or-nan (root.refused k) = inr refl
+
+-- the root of x was given
+abbrev pub Given : Float → Type 0
+Given x = (r : Float) × (rootOf x ≡ root.root r)
+
+module _ (o : Scaled) (z : Float) (f : isFinite (timeAt o z) ≡ true) where
+  abbrev y : Float
+  y = shapeAt (o .rho) (o .a) z .y
+
+  no-nan : {A : Type 0} → timeAt o z ≡ nan → A
+  no-nan e = absurd (true≢false (sym f ∙ ap isFinite e))
+
+  -- T is NaN where g is
+  nan-time : rootOrNan y ≡ nan → timeAt o z ≡ nan
+  unfolding timeAt shapeAt
+  nan-time e = rw (e, times-nan (o .a)) (plus-nan _)
+
+  -- and y where k is
+  nan-shape : rootOrNan (functionsAt one z .u2) ≡ nan → y ≡ nan
+  unfolding shapeAt
+  nan-shape e = rw (e, over-nan (o .a ⊗ (one ⊖ z ⊗ functionsAt one z .u3))) (minus-nan (one ⊕ o .rho))
+
+  pub roots-given : Given (functionsAt one z .u2) × Given y
+  unfolding rootOrNan
+  roots-given = (
+    elim (given-or-nan (rootOf (functionsAt one z .u2))) [ inl g ↦ g | inr e ↦ no-nan (nan-time (ap orNan (ap rootOf (nan-shape e) ∙ refuses-not-finite nan refl))) ],
+    elim (given-or-nan (rootOf y)) [ inl g ↦ g | inr e ↦ no-nan (nan-time e) ],
+  )

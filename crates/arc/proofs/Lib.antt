@@ -1,0 +1,4 @@
+pub mod Theorems
+pub mod Departing
+pub mod Honest
+pub mod Fixed

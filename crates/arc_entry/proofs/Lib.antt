@@ -1,0 +1,5 @@
+pub mod Refusals
+pub mod Passed
+pub mod Fair
+pub mod Theorems
+pub mod Fixed

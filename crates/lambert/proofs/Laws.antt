@@ -1,0 +1,58 @@
+-- The laws of a transfer's answers: those of any search (`crates/search/proofs/Answers.antt`), of the time along the arc and of the velocity that z
+-- comes to. A refusal's number is one of ten (`refusal-numbered`); 9 and 10 come with a bracket alone, which lies in 0 to 36 (`bracket-means`).
+use mathlib.Core.Path.{_≡_}
+use Prim.Native.Nat.{ℕ, _≤_}
+use lib.Ieee.{Float}
+use Rattle.search.specs.declared.Bracket.{Bracket}
+use Rattle.search.specs.Search.{searchOf}
+use Rattle.search.specs.Answers.{solved, refused, refusedWithBracket}
+use Rattle.search.proofs.Hunt.{Names}
+use Rattle.search.proofs.Answers as search
+use Rattle.search.proofs.Answers.{Fair, guessesIn, RefusalHas}
+use Rattle.rows.specs.Rows.{pass, refuse}
+use Rattle.vectors.specs.declared.Vector.{Vector}
+use Rattle.arc.specs.declared.Transfer.{Transfer}
+use Rattle.arc.specs.declared.Scaled.{Scaled}
+use Rattle.arc.specs.Arc.{timeAt, velocityAt}
+use Rattle.arc.proofs.Departing.{velocity-refuses}
+use Rattle.arc_entry.specs.ArcEntry.{entryOf}
+use Rattle.arc_entry.proofs.Refusals.{Eight, entry-refuses}
+use Rattle.arc_entry.proofs.Passed.{entered}
+use Rattle.arc_entry.proofs.Fair.{fair}
+use Rattle.lambert.specs.Lambert.{wantedTime, lambertOf}
+
+abbrev pub IsSolved : Transfer → (z : Float) → Vector → Type 0
+IsSolved q z velocity = search.IsSolved timeAt wantedTime velocityAt (entryOf q) z velocity
+
+abbrev pub IsNamed : Transfer → (k n : ℕ) (lo hi : Float) → Type 0
+IsNamed q k n lo hi = search.IsNamed timeAt wantedTime (q .limit) (entryOf q) k n lo hi
+
+module _ (q : Transfer) where
+  least : (o : Scaled) (b : Bracket) → entryOf q ≡ pass (o, b) → 1 ≤ q .limit
+  least o b h = entered q o b h .least
+
+  starts-fair : (o : Scaled) (b : Bracket) → entryOf q ≡ pass (o, b) → Fair (timeAt o) (o .t) b
+  starts-fair o b h = fair q o b (entered q o b h)
+
+  pub refused-before : (k : ℕ) → entryOf q ≡ refuse k → lambertOf q ≡ refused k 0
+  unfolding lambertOf
+  refused-before = search.refused-before timeAt wantedTime velocityAt (q .limit) (entryOf q)
+
+  pub counts : (o : Scaled) (b : Bracket) → entryOf q ≡ pass (o, b) → (1 ≤ guessesIn (lambertOf q)) × (guessesIn (lambertOf q) ≤ q .limit)
+  unfolding lambertOf
+  counts = search.counts timeAt wantedTime velocityAt (q .limit) (entryOf q) least
+
+  pub refusal-numbered : {P : ℕ → Type 0} → Eight P → P 9 → P 10 → RefusalHas P (lambertOf q)
+  unfolding lambertOf
+  refusal-numbered e nine ten = search.refusal-numbered timeAt wantedTime velocityAt (q .limit) (entryOf q) (e .p6) nine ten (entry-refuses e q) (velocity-refuses (e .p6))
+
+  pub times-kept : (o : Scaled) (b : Bracket) → entryOf q ≡ pass (o, b) → (new : Bracket) → Names (searchOf (timeAt o) (o .t) (q .limit) b) new → (new .lo .time ≡ timeAt o (new .lo .x)) × (new .hi .time ≡ timeAt o (new .hi .x))
+  times-kept = search.times-kept timeAt wantedTime velocityAt (q .limit) (entryOf q) least starts-fair
+
+  pub solved-means : (z : Float) (n : ℕ) (velocity : Vector) → lambertOf q ≡ solved z n velocity → IsSolved q z velocity
+  unfolding lambertOf
+  solved-means = search.solved-means timeAt wantedTime velocityAt (q .limit) (entryOf q) least starts-fair
+
+  pub bracket-means : (k n : ℕ) (lo hi : Float) → lambertOf q ≡ refusedWithBracket k n lo hi → IsNamed q k n lo hi
+  unfolding lambertOf
+  bracket-means = search.bracket-means timeAt wantedTime velocityAt (q .limit) (entryOf q) least starts-fair
