@@ -13,7 +13,7 @@ ghost use lib.ListN.{length};
 ghost use Rattle.rows.specs.Rows.{pass};
 ghost use Rattle.pieces.specs.Pieces.{Put};
 ghost use Rattle.card.specs.Fields.{Card, sizeOf};
-ghost use Rattle.card.specs.Made.{fieldsIn};
+ghost use Rattle.card.specs.Made.{answerFrom, fieldsIn};
 ghost use Rattle.contents.specs.Contents.{countOf, cardsOf, counting};
 ghost use Rattle.layout.specs.Packed.{kindsOf, fieldsOf};
 ghost use Rattle.apart.specs.Apart.{apartOf, sizesOf, withTaken, said};
@@ -114,6 +114,18 @@ fn put_fields(kind: Kind, body: &[u8], fields: &mut [u8], at: usize) -> usize
     ensures { λ r. ⌜ Put (now (fields .entry)) at (fieldsIn kind (now (body .entry))) (now (fields .exit)) r ⌝ }
 {
     let problem = pieces::put(fields, at, &body[..card::PROBLEM]);
-    let last = card::X + (kind.packed() - card::PROBLEM);
-    pieces::put(fields, problem, &body[card::X..last])
+    let first = answer_from(kind);
+    let last = first + (kind.packed() - card::PROBLEM);
+    pieces::put(fields, problem, &body[first..last])
+}
+
+// Where the answer begins in a body: behind the problem, and behind its spare where there is one.
+fn answer_from(kind: Kind) -> usize
+    ensures { λ r. ⌜ r ≡ answerFrom kind ⌝ }
+{
+    match kind {
+        Kind::Solved => card::X,
+        Kind::Refused => card::NUMBER,
+        Kind::Transfer => card::PROBLEM,
+    }
 }

@@ -1,13 +1,13 @@
 -- A transfer that passes the tests starts from a fair bracket (search's `Fair`): 0 to 36, with t between the times of its ends, which are kept.
 use mathlib.Core.Path.{_≡_, refl, sym, subst}
 use mathlib.Core.Bool.{true, false}
-use lib.Dec.{T}
-use lib.Ieee.{Float, binary64, ofBits}
-use lib.Ieee.Bits.{ofBits-fits}
-use Rattle.exact.specs.Numbers.{isFinite, Number, isMinus}
+use lib.Ieee.{Float, binary64, le, ofBits}
+use lib.Ieee.Bits.{is-true, ofBits-fits}
+use Rattle.exact.specs.Numbers.{nought, Number, isMinus}
+use Rattle.exact.proofs.Basics.{both}
 use Rattle.search.specs.declared.Bracket.{Bracket}
 use Rattle.search.specs.Search.{within}
-use Rattle.search.proofs.Laws.{within-finite, forwards}
+use Rattle.search.proofs.Laws.{forwards}
 use Rattle.search.proofs.Answers.{Fair}
 use Rattle.arc.specs.declared.Transfer.{Transfer}
 use Rattle.arc.specs.declared.Scaled.{Scaled}
@@ -39,6 +39,8 @@ fair q o b e =
       hi-kept = refl;
     })
 
--- so what lies in it is finite
-pub in-start-finite : (q : Transfer) (o : Scaled) (b : Bracket) → Entered q o b → (z : Float) → within b z ≡ true → T (isFinite z)
-in-start-finite q o b e z w = let s = fair q o b e .starts in within-finite b z (s .lo-number) (s .hi-number) w
+-- what lies in it is at least 0 and at most 36
+pub in-start-between : (q : Transfer) (o : Scaled) (b : Bracket) → Entered q o b → (z : Float) → within b z ≡ true → (le nought z ≡ true) × (le z thirtySix ≡ true)
+in-start-between q o b e z w =
+    let between = both (le nought z) (le z thirtySix) .0 (subst (λ (b : Bracket). within b z ≡ true) (e .bracket-is) w) in
+    (is-true (le nought z) (between .0), is-true (le z thirtySix) (between .1))

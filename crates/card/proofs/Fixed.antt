@@ -2,7 +2,7 @@
 use mathlib.Core.Path.{refl}
 use Rattle.coincidence.specs.Coincidence.{Fixes}
 use Rattle.coincidence.proofs.Laws.{one-result, one-answer}
-use Rattle.card.proofs.Theorems.{named-once}
+use Rattle.card.proofs.Theorems.{named-once, asked-once}
 use Rattle.card.proofs.Kind.number.Reads as kind-number
 use Rattle.card.proofs.Kind.number.Kinds as kind-number-kinds
 use Rattle.card.proofs.Kind.packed.Reads as kind-packed
@@ -15,6 +15,8 @@ use Rattle.card.proofs.number.Reads as number
 use Rattle.card.proofs.number.Kinds as number-kinds
 use Rattle.card.proofs.problem.Reads as problem
 use Rattle.card.proofs.problem.Kinds as problem-kinds
+use Rattle.card.proofs.transfer.Reads as transfer
+use Rattle.card.proofs.transfer.Kinds as transfer-kinds
 
 pub kind-number-fixes : Fixes 0 kind-number-kinds.ps kind-number-kinds.r kind-number.Learnt
 kind-number-fixes κs a x y v w p q = (one-result p q, refl)
@@ -33,3 +35,6 @@ number-fixes κs a x y v w p q = (one-result p q, refl)
 
 pub problem-fixes : Fixes 1 problem-kinds.ps problem-kinds.r problem.Learnt
 problem-fixes κs a x y v w p q = (one-result p q, refl)
+
+pub transfer-fixes : Fixes 1 transfer-kinds.ps transfer-kinds.r transfer.Learnt
+transfer-fixes κs a x y v w p q = (one-answer asked-once x y p q, refl)

@@ -1,5 +1,6 @@
 pub mod Sizes
 pub mod Packed
 pub mod Numbers
+pub mod Given
 pub mod Theorems
 pub mod Fixed

@@ -11,6 +11,7 @@ pub size-most : (k : Kind) → sizeOf k ≤ largestBody
 unfolding sizeOf
 size-most kind.Solved = omega arith
 size-most kind.Refused = omega arith
+size-most kind.Transfer = omega arith
 
 pub solved-size : sizeOf kind.Solved ≡ largestBody
 unfolding sizeOf

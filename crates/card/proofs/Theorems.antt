@@ -1,4 +1,5 @@
--- What a kind's name says can be undone, so `named` is one to one, and the contract of `kind_of` has one answer.
+-- What a kind's name says can be undone, and what a body asks, so `named` and `asked` are one to one, and the contracts of `kind_of` and
+-- `transfer` have one answer.
 use mathlib.Core.Path.{_≡_, refl}
 use Rattle.coincidence.specs.Coincidence.{OneToOne}
 use Rattle.coincidence.proofs.Laws.{undone}
@@ -6,7 +7,10 @@ use Rattle.rows.specs.Rows.{Checked, pass, refuse}
 use Rattle.card.specs.declared.Kind.{Kind}
 use Rattle.card.specs.declared.Named.{Named}
 use Rattle.card.specs.declared.Named.the-variants as name
-use Rattle.card.specs.Said.{named}
+use Rattle.arc.specs.declared.Transfer.{Transfer}
+use Rattle.card.specs.declared.Asked.{Asked}
+use Rattle.card.specs.declared.Asked.the-variants as ask
+use Rattle.card.specs.Said.{named, asked}
 
 abbrev unnamed : Checked Kind → Named
 unnamed (pass k) = name.Kind k
@@ -18,3 +22,14 @@ unnamed-is name.Unknown = refl
 
 pub named-once : OneToOne named
 named-once = undone named unnamed unnamed-is
+
+abbrev unasked : Checked Transfer → Asked
+unasked (pass q) = ask.Transfer q
+unasked (refuse k) = ask.UnknownWay
+
+unasked-is : (a : Asked) → unasked (asked a) ≡ a
+unasked-is (ask.Transfer q) = refl
+unasked-is ask.UnknownWay = refl
+
+pub asked-once : OneToOne asked
+asked-once = undone asked unasked unasked-is

@@ -7,6 +7,10 @@ use lib.Ieee.{Float}
 use Rattle.exact.specs.Numbers.{wordOf}
 use Rattle.spelled.specs.Spelled.{bytesOf}
 use Rattle.words.specs.Words.{wordsBytes}
+use Rattle.vectors.specs.declared.Vector.{Vector}
+use Rattle.arc.specs.declared.Way.{Way}
+use Rattle.arc.specs.declared.Way.the-variants as way
+use Rattle.arc.specs.declared.Transfer.{Transfer}
 use Rattle.conic.specs.declared.State.{State}
 use Rattle.conic.specs.declared.Problem.{Problem}
 use Rattle.search.specs.Answers as answer
@@ -23,6 +27,17 @@ numbersBytes l = wordsBytes (map wordOf l)
 abbrev pub problemBytes : Problem → List ℕ
 problemBytes p = numbersBytes (p .mu ∷ p .r .x ∷ p .r .y ∷ p .r .z ∷ p .v .x ∷ p .v .y ∷ p .v .z ∷ p .dt ∷ []) ++ bytesOf 4 (p .limit)
 
+-- The deck 7: the number of a way, and a transfer's bytes: what every body begins with, then the way
+abbrev pub wayNumber : Way → ℕ
+wayNumber way.Short = 0
+wayNumber way.Long = 1
+
+abbrev pub asProblem : Transfer → Problem
+asProblem q = record { mu = q .mu; r = q .r1; v = q .r2; dt = q .dt; limit = q .limit }
+
+abbrev pub transferBytes : Transfer → List ℕ
+transferBytes q = problemBytes (asProblem q) ++ bytesOf 4 (wayNumber (q .way))
+
 -- a spare: bytes that are 0
 abbrev pub spare : List ℕ
 spare = bytesOf spareSize 0
@@ -34,7 +49,7 @@ bodyOf kind.Solved given answer = given ++ (spare ++ answer)
 bodyOf kind.Refused given answer = given ++ (spare ++ (answer ++ spare))
 bodyOf kind.Transfer given answer = given ++ answer
 
--- where what stands behind the first spare begins
+-- The deck 5 to 7: where the answer begins: behind the spare, and where there is none, behind what every body begins with
 unfoldable pub answerFrom : Kind → ℕ
 answerFrom kind.Solved = answerAt
 answerFrom kind.Refused = answerAt
@@ -56,6 +71,13 @@ solvedAnswer x state = numbersBytes (solvedNumbers x state)
 
 abbrev pub solvedBody : (given : List ℕ) → Float → State → List ℕ
 solvedBody given x state = bodyOf kind.Solved given (solvedAnswer x state)
+
+-- The deck 7: z and velocity; and the body of a solved transfer, behind the transfer's bytes
+abbrev pub transferNumbers : Float → Vector → List Float
+transferNumbers z v = z ∷ v .x ∷ v .y ∷ v .z ∷ []
+
+abbrev pub transferBody : (given : List ℕ) → Float → Vector → List ℕ
+transferBody given z v = given ++ numbersBytes (transferNumbers z v)
 
 -- The deck 6: the refusal's number
 abbrev pub refusedBody : (given : List ℕ) → ℕ → List ℕ

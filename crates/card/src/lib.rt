@@ -144,10 +144,12 @@ fn by_way(body: &[u8], way: Way) -> Transfer
     ensures { λ r. ⌜ r ≡ transferBy (now (body .entry)) way ⌝ }
 {
     let p = problem(body);
+    let r1 = p.r;
+    let r2 = p.v;
     Transfer {
         mu: p.mu,
-        r1: p.r,
-        r2: p.v,
+        r1,
+        r2,
         dt: p.dt,
         limit: p.limit,
         way,

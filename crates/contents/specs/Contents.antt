@@ -77,7 +77,7 @@ abbrev pub Passes : Checked (List Card) → Type 0
 Passes (pass cards) = Unit
 Passes (refuse k) = ⊥
 
--- The deck 7: the bytes of the largest deck; and The check program's listing 1: what is read of a deck, one byte more
+-- The deck 8: the bytes of the largest deck; and The check program's listing 1: what is read of a deck, one byte more
 abbrev pub largestDeck : ℕ
 largestDeck = headerSize + mostCards * (entrySize + largestBody)
 

@@ -10,6 +10,7 @@ use Rattle.card.specs.declared.Kind.the-variants as kind
 abbrev pub kindWord : Kind → List ℕ
 kindWord kind.Solved = text " solved"
 kindWord kind.Refused = text " refused"
+kindWord kind.Transfer = text " solved"
 
 -- The listing 2: a card's line, with its place and its verdict's number
 abbrev pub placedLine : (place : ℕ) → Kind → (verdict : ℕ) → List ℕ

@@ -24,5 +24,6 @@ fn kind_word(kind: Kind, page: &mut [u8], at: usize) -> usize
     match kind {
         Kind::Solved => pieces::put(page, at, b" solved"),
         Kind::Refused => pieces::put(page, at, b" refused"),
+        Kind::Transfer => pieces::put(page, at, b" solved"),
     }
 }

@@ -1,12 +1,16 @@
 -- The laws of a transfer's answers: those of any search (`crates/search/proofs/Answers.antt`), of the time along the arc and of the velocity that z
--- comes to. A refusal's number is one of ten (`refusal-numbered`); 9 and 10 come with a bracket alone, which lies in 0 to 36 (`bracket-means`).
+-- comes to. A refusal's number is one of ten (`refusal-numbered`); 9 and 10 come with a
+-- bracket alone (`bracket-means`); a solved z and a named bracket lie in 0 to 36 (`solved-between`, `named-between`).
 use mathlib.Core.Path.{_≡_}
+use mathlib.Core.Bool.{true}
 use Prim.Native.Nat.{ℕ, _≤_}
-use lib.Ieee.{Float}
+use lib.Ieee.{Float, le}
 use Rattle.search.specs.declared.Bracket.{Bracket}
 use Rattle.search.specs.Search.{searchOf}
 use Rattle.search.specs.Answers.{solved, refused, refusedWithBracket}
+use Rattle.exact.specs.Numbers.{nought}
 use Rattle.search.proofs.Hunt.{Names}
+use Rattle.search.proofs.Laws.{In}
 use Rattle.search.proofs.Answers as search
 use Rattle.search.proofs.Answers.{Fair, guessesIn, RefusalHas}
 use Rattle.rows.specs.Rows.{pass, refuse}
@@ -15,10 +19,10 @@ use Rattle.arc.specs.declared.Transfer.{Transfer}
 use Rattle.arc.specs.declared.Scaled.{Scaled}
 use Rattle.arc.specs.Arc.{timeAt, velocityAt}
 use Rattle.arc.proofs.Departing.{velocity-refuses}
-use Rattle.arc_entry.specs.ArcEntry.{entryOf}
+use Rattle.arc_entry.specs.ArcEntry.{thirtySix, entryOf}
 use Rattle.arc_entry.proofs.Refusals.{Eight, entry-refuses}
 use Rattle.arc_entry.proofs.Passed.{entered}
-use Rattle.arc_entry.proofs.Fair.{fair}
+use Rattle.arc_entry.proofs.Fair.{fair, in-start-between}
 use Rattle.lambert.specs.Lambert.{wantedTime, lambertOf}
 
 abbrev pub IsSolved : Transfer → (z : Float) → Vector → Type 0
@@ -56,3 +60,13 @@ module _ (q : Transfer) where
   pub bracket-means : (k n : ℕ) (lo hi : Float) → lambertOf q ≡ refusedWithBracket k n lo hi → IsNamed q k n lo hi
   unfolding lambertOf
   bracket-means = search.bracket-means timeAt wantedTime velocityAt (q .limit) (entryOf q) least starts-fair
+
+  -- the starting bracket is 0 to 36, so a solved z and the ends of a named bracket lie there
+  between : {o : Scaled} {b : Bracket} → entryOf q ≡ pass (o, b) → (z : Float) → In b z → (le nought z ≡ true) × (le z thirtySix ≡ true)
+  between {o} {b} h z i = in-start-between q o b (entered q o b h) z (i .1)
+
+  pub solved-between : {z : Float} {velocity : Vector} → IsSolved q z velocity → (le nought z ≡ true) × (le z thirtySix ≡ true)
+  solved-between {z} s = between (s .entry) z (s .in-start)
+
+  pub named-between : {k n : ℕ} {lo hi : Float} → IsNamed q k n lo hi → (le nought lo ≡ true) × (le hi thirtySix ≡ true)
+  named-between {lo = lo} {hi = hi} s = (between (s .entry) lo (s .lo-in) .0, between (s .entry) hi (s .hi-in) .1)

@@ -1,7 +1,8 @@
 -- The required velocity: the tests before the first guess, the search for the z whose time is t, and the velocity that it comes to. STEPS,
 -- Required velocity. Definitions only.
 use lib.Ieee.{Float}
-use Rattle.search.specs.Answers.{answerFrom}
+use Rattle.rows.specs.Rows.{Checked, pass, refuse}
+use Rattle.search.specs.Answers.{refused, answerFrom}
 use Rattle.arc.specs.declared.Transfer.{Transfer}
 use Rattle.arc.specs.declared.Scaled.{Scaled}
 use Rattle.arc.specs.Arc.{timeAt, velocityAt}
@@ -12,5 +13,11 @@ use Rattle.lambert.specs.Said.{Said}
 abbrev pub wantedTime : Scaled → Float
 wantedTime o = o .t
 
+-- the answer to a transfer
 unfoldable pub lambertOf : Transfer → Said
 lambertOf q = answerFrom timeAt wantedTime velocityAt (q .limit) (entryOf q)
+
+-- and to one that was read from bytes: where its way is none, the refusal of that, with the count 0
+abbrev pub answerTo : Checked Transfer → Said
+answerTo (pass q) = lambertOf q
+answerTo (refuse k) = refused k 0

@@ -1,5 +1,5 @@
 -- Clearing the spares of cards whose spares are 0 changes nothing: four bytes below 256 whose value is 0 are the bytes of 0, and a body is the
--- problem, its spare, the answer and, on a refused card, the last spare.
+-- problem, its spare, the answer and, on a refused card, the last spare; on a transfer the problem and the answer.
 use mathlib.Core.Path.{_≡_, refl, sym, ap, ap₂, subst, _∙_}
 use mathlib.Core.List.{List, [], _∷_, _++_, map, append-nil}
 use Prim.Native.Nat.{ℕ, zero, suc, _+_, _≤_}
@@ -12,7 +12,7 @@ use Rattle.rows.specs.Rows.{pass}
 use Rattle.card.specs.declared.Kind.{Kind}
 use Rattle.card.specs.declared.Kind.the-variants as kind
 use Rattle.card.specs.Fields.{Card, problemSize, spareSize, largestAnswer, answerSize, answerAt, sizeOf, spareOf, lastSpareOf}
-use Rattle.card.specs.Made.{spare, bodyOf, fieldsIn, bodyFrom}
+use Rattle.card.specs.Made.{spare, bodyOf, answerFrom, fieldsIn, bodyFrom}
 use Rattle.card.proofs.Packed.{body-back}
 use Rattle.contents.specs.Contents.{entryAt, mostCards, countOf, cardsFrom, cardsOf}
 use Rattle.contents.proofs.Cards.{one-more, no-more}
@@ -24,21 +24,22 @@ use Rattle.layout.proofs.Packed.{length-kinds, packed-back}
 use Rattle.layout.proofs.WriteBack.{sized-from, cards-sized, write-back}
 use Rattle.layout.proofs.Writing.{few-enough}
 
--- the spares of a body are 0, and those of each card
+-- the spares of a body are 0, a transfer having none, and those of each card
 abbrev pub SpareZero : Kind → List ℕ → Type 0
 SpareZero kind.Solved body = spareOf body ≡ 0
 SpareZero kind.Refused body = (spareOf body ≡ 0) × (lastSpareOf body ≡ 0)
+SpareZero kind.Transfer body = Unit
 
 abbrev pub SparesZero : List Card → Type 0
 SparesZero [] = Unit
 SparesZero (c ∷ cards) = SpareZero (c .kind) (c .body) × SparesZero cards
 
 -- the fields of a body come apart again
-fields-apart : (kind : Kind) (body : List ℕ) → problemSize ≤ length body → bodyFrom kind (fieldsIn kind body) ≡ bodyOf kind (take problemSize body) (take (answerSize kind) (drop answerAt body))
-fields-apart kind body long = body-back kind (take problemSize body) (take (answerSize kind) (drop answerAt body)) (length-take-le problemSize body long)
+fields-apart : (kind : Kind) (body : List ℕ) → problemSize ≤ length body → bodyFrom kind (fieldsIn kind body) ≡ bodyOf kind (take problemSize body) (take (answerSize kind) (drop (answerFrom kind) body))
+fields-apart kind body long = body-back kind (take problemSize body) (take (answerSize kind) (drop (answerFrom kind) body)) (length-take-le problemSize body long)
 
 pub body-cleared : (kind : Kind) (body : List ℕ) → length body ≡ sizeOf kind → Bytes body → SpareZero kind body → bodyFrom kind (fieldsIn kind body) ≡ body
-unfolding sizeOf answerSize
+unfolding sizeOf answerSize answerFrom
 body-cleared kind.Solved body size b z =
     let spare-stands = number-stands spareSize body problemSize answerAt 0 b refl (omega arith) z in
     let answer-all : take largestAnswer (drop answerAt body) ≡ drop answerAt body = take-all largestAnswer (drop answerAt body) (simp length-drop (omega arith)) in
@@ -49,6 +50,9 @@ body-cleared kind.Refused body size b z =
     let last-stands : drop last-at body ≡ spare = number-stands spareSize body last-at (last-at + spareSize) 0 b refl (omega arith) (z .1) ∙ ap (λ (rest : List ℕ). spare ++ rest) (drop-of-length-le body {i = last-at + spareSize} (omega arith)) ∙ append-nil spare in
     let answer-stands : drop answerAt body ≡ take (answerSize kind.Refused) (drop answerAt body) ++ spare = stands body answerAt (answerSize kind.Refused) ∙ ap (λ (rest : List ℕ). take (answerSize kind.Refused) (drop answerAt body) ++ rest) last-stands in
     fields-apart kind.Refused body (omega arith) ∙ rw (← answer-stands, ← spare-stands) (sym (stands body 0 problemSize))
+body-cleared kind.Transfer body size b z =
+    let answer-all : take (answerSize kind.Transfer) (drop problemSize body) ≡ drop problemSize body = take-all (answerSize kind.Transfer) (drop problemSize body) (simp length-drop (omega arith)) in
+    fields-apart kind.Transfer body (omega arith) ∙ rw answer-all (sym (stands body 0 problemSize))
 
 cleared-from : (deck : List ℕ) (left i at : ℕ) (cards : List Card) → Bytes deck → cardsFrom deck left i at ≡ pass cards → SparesZero cards → map cleared cards ≡ cards
 cleared-from deck zero i at cards b h z = rw (no-more deck i at cards h) refl

@@ -24,6 +24,7 @@ number-small : (k : Kind) → kindNumber k < 256 ^ 4
 unfolding kindNumber
 number-small kind.Solved = omega arith
 number-small kind.Refused = omega arith
+number-small kind.Transfer = omega arith
 
 -- where an entry stands, it passes
 entry-passes : (deck rest : List ℕ) (i at : ℕ) (kind : Kind) → drop (entryAt i) deck ≡ entryFor kind at ++ rest → at + sizeOf kind ≤ length deck → length deck ≤ largestDeck → entryIn deck i at ≡ pass kind

@@ -10,6 +10,7 @@ ghost use mathlib.Core.Path.{_≡_};
 ghost use Prim.Native.Nat.{_≤_, min};
 ghost use lib.ListN.{length};
 ghost use Rattle.pieces.specs.Pieces.{putIn, endIn, Put};
+ghost use Rattle.card.specs.declared.Kind.the-variants.{Solved};
 ghost use Rattle.card.specs.Fields.{problemSize};
 ghost use Rattle.card.specs.Made.{bodyFrom};
 ghost use Rattle.contents.specs.Contents.{entryAt, mostCards, largestDeck};
@@ -73,14 +74,25 @@ pub fn put_body(kind: Kind, fields: &[u8], out: &mut [u8], at: usize) -> usize
     ensures { λ r. ⌜ r ≡ endIn (now (out .entry)) at (bodyFrom kind (now (fields .entry))) ⌝ }
     ensures { λ r. ⌜ now (out .exit) ≡ putIn (now (out .entry)) at (bodyFrom kind (now (fields .entry))) ⌝ }
 {
+    match kind {
+        Kind::Solved => put_spared(fields, out, at),
+        Kind::Refused => {
+            let answer = put_spared(fields, out, at);
+            words::put_half(out, answer, 0)
+        }
+        Kind::Transfer => pieces::put(out, at, fields),
+    }
+}
+
+// The problem, its spare and the answer: the body of a solved card, and of a refused one as far as its
+// last spare.
+fn put_spared(fields: &[u8], out: &mut [u8], at: usize) -> usize
+    ensures { λ r. ⌜ Put (now (out .entry)) at (bodyFrom Solved (now (fields .entry))) (now (out .exit)) r ⌝ }
+{
     let first = given(fields);
     let problem = pieces::put(out, at, &fields[..first]);
     let spare = words::put_half(out, problem, 0);
-    let answer = pieces::put(out, spare, &fields[first..]);
-    match kind {
-        Kind::Solved => answer,
-        Kind::Refused => words::put_half(out, answer, 0),
-    }
+    pieces::put(out, spare, &fields[first..])
 }
 
 // The bytes of fields that are the problem's: 68, or as many as there are.

@@ -7,8 +7,9 @@ use Rattle.text.proofs.Length.{length-count, length-number}
 use Rattle.root.specs.Said as root
 use Rattle.root.specs.Root.{rootOf}
 use Rattle.kepler.specs.Kepler.{keplerOf}
-use Rattle.card.specs.Fields.{numberAt, problemOf}
-use Rattle.outcomes.proofs.Widths.{outcome-most}
+use Rattle.card.specs.Fields.{numberAt, problemOf, transferOf}
+use Rattle.outcomes.proofs.Widths.{outcome-most, transfer-most}
+use Rattle.lambert.specs.Lambert.{answerTo}
 use Rattle.line.specs.declared.Question.{Question}
 use Rattle.line.specs.declared.Question.the-variants as question
 use Rattle.line.specs.Line.{widthOf, mostWidth, rootLine, turned, lineOf, mostLine}
@@ -18,11 +19,13 @@ pub width-least : (asked : Question) → 8 ≤ widthOf asked
 width-least question.Root = omega arith
 width-least question.Kepler = omega arith
 width-least question.Theta = omega arith
+width-least question.Transfer = omega arith
 
 pub width-most : (asked : Question) → widthOf asked ≤ mostWidth
 width-most question.Root = omega arith
 width-most question.Kepler = omega arith
 width-most question.Theta = omega arith
+width-most question.Transfer = omega arith
 
 -- how long a line is at most
 root-most : (s : root.Said) → length (rootLine s) ≤ mostLine
@@ -34,3 +37,4 @@ unfolding lineOf
 line-most question.Root bytes = root-most (rootOf (numberAt bytes 0))
 line-most question.Kepler bytes = outcome-most (keplerOf (problemOf bytes))
 line-most question.Theta bytes = outcome-most (turned (problemOf bytes))
+line-most question.Transfer bytes = transfer-most (answerTo (transferOf bytes))

@@ -9,11 +9,7 @@ use Rattle.conic.specs.declared.Problem.{Problem}
 use Rattle.conic.specs.Said as conic
 use Rattle.kepler.specs.Kepler.{keplerOf}
 use Rattle.theta.specs.Theta.{thetaOf}
-use Rattle.rows.specs.Rows.{Checked, pass, refuse}
-use Rattle.search.specs.Answers.{refused}
-use Rattle.arc.specs.declared.Transfer.{Transfer}
-use Rattle.lambert.specs.Said as lambert
-use Rattle.lambert.specs.Lambert.{lambertOf}
+use Rattle.lambert.specs.Lambert.{answerTo}
 use Rattle.card.specs.Fields.{problemSize, transferSize, numberAt, problemOf, transferOf}
 use Rattle.outcomes.specs.Outcomes.{outcomeLine, transferLine, mostOutcome}
 use Rattle.line.specs.declared.Question.{Question}
@@ -35,17 +31,12 @@ rootLine (root.refused k) = joined (text "refused" ∷ count k ∷ text "\n" ∷
 abbrev pub turned : Problem → conic.Said
 turned p = thetaOf (p .mu) (p .r) (p .v) (p .dt)
 
--- Lines 4: a transfer's answer; for a way that is none the refusal 23, with the count 0
-abbrev pub transferred : Checked Transfer → lambert.Said
-transferred (pass q) = lambertOf q
-transferred (refuse k) = refused k 0
-
 -- Lines 1 to 4: what is asked of the record, and its answer's line
 unfoldable pub lineOf : Question → (bytes : List ℕ) → List ℕ
 lineOf question.Root bytes = rootLine (rootOf (numberAt bytes 0))
 lineOf question.Kepler bytes = outcomeLine (keplerOf (problemOf bytes))
 lineOf question.Theta bytes = outcomeLine (turned (problemOf bytes))
-lineOf question.Transfer bytes = transferLine (transferred (transferOf bytes))
+lineOf question.Transfer bytes = transferLine (answerTo (transferOf bytes))
 
 -- no record has more bytes
 abbrev pub mostWidth : ℕ

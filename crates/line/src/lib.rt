@@ -1,8 +1,7 @@
 // The line of one record, as `predict`, `turn`, `transfer` and `roots` write it. docs/RULES.md, Lines.
 //
-// A record is what one question takes: eight bytes for a root, 68 for Kepler, 64 for
-// Theta, 72 for a transfer. Every
-// function here is proved and total, and the crate assumes nothing.
+// A record is what one question takes: eight bytes for a root, 68 for Kepler, 64 for Theta, 72 for a
+// transfer. Every function here is proved and total, and the crate assumes nothing.
 use card::Asked;
 use conic::Outcome;
 use conic::Problem;
@@ -13,6 +12,7 @@ ghost use Rattle.pieces.specs.Pieces.{putIn, endIn, Put};
 ghost use Rattle.root.specs.Said as root;
 ghost use Rattle.conic.specs.Said as conic;
 ghost use Rattle.card.specs.Said as card;
+ghost use Rattle.lambert.specs.Lambert.{answerTo};
 ghost use Rattle.outcomes.specs.Outcomes.{transferLine};
 ghost use Rattle.line.specs.Line as line;
 
@@ -58,7 +58,7 @@ fn turned(p: Problem) -> Outcome
 
 // The line of a transfer; a way that is neither 0 nor 1 is refused.
 fn transfer_line(asked: Asked, out: &mut [u8], at: usize) -> usize
-    ensures { λ r. ⌜ Put (now (out .entry)) at (transferLine (line.transferred (card.asked asked))) (now (out .exit)) r ⌝ }
+    ensures { λ r. ⌜ Put (now (out .entry)) at (transferLine (answerTo (card.asked asked))) (now (out .exit)) r ⌝ }
 {
     match asked {
         Asked::Transfer(q) => outcomes::put_transfer(lambert::lambert(q), out, at),

@@ -1,4 +1,5 @@
-// Records in, a line for each out: what `predict`, `turn` and `roots` write. docs/RULES.md, Lines.
+// Records in, a line for each out: what `predict`, `turn`, `transfer` and `roots` write.
+// docs/RULES.md, Lines.
 //
 // Every function here is proved, the public ones are total, and the crate assumes nothing.
 use line::Question;

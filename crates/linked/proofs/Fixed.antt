@@ -4,6 +4,8 @@ use Rattle.coincidence.specs.Coincidence.{Fixes}
 use Rattle.coincidence.proofs.Laws.{one-result}
 use Rattle.linked.proofs.tailfiddle_predict.Reads as tailfiddle-predict
 use Rattle.linked.proofs.tailfiddle_predict.Kinds as tailfiddle-predict-kinds
+use Rattle.linked.proofs.tailfiddle_transfer.Reads as tailfiddle-transfer
+use Rattle.linked.proofs.tailfiddle_transfer.Kinds as tailfiddle-transfer-kinds
 use Rattle.linked.proofs.tailfiddle_check.Reads as tailfiddle-check
 use Rattle.linked.proofs.tailfiddle_check.Kinds as tailfiddle-check-kinds
 use Rattle.linked.proofs.tailfiddle_write.Reads as tailfiddle-write
@@ -11,6 +13,9 @@ use Rattle.linked.proofs.tailfiddle_write.Kinds as tailfiddle-write-kin
 
 pub tailfiddle-predict-fixes : Fixes 2 tailfiddle-predict-kinds.ps tailfiddle-predict-kinds.r tailfiddle-predict.Learnt
 tailfiddle-predict-fixes κs a x y v w p q = (one-result (p .0) (q .0), ap (λ l. (tt, (l, tt))) (one-result (p .1) (q .1)))
+
+pub tailfiddle-transfer-fixes : Fixes 2 tailfiddle-transfer-kinds.ps tailfiddle-transfer-kinds.r tailfiddle-transfer.Learnt
+tailfiddle-transfer-fixes κs a x y v w p q = (one-result (p .0) (q .0), ap (λ l. (tt, (l, tt))) (one-result (p .1) (q .1)))
 
 pub tailfiddle-check-fixes : Fixes 2 tailfiddle-check-kinds.ps tailfiddle-check-kinds.r tailfiddle-check.Learnt
 tailfiddle-check-fixes κs a x y v w p q = (one-result (p .0) (q .0), ap (λ l. (tt, (l, tt))) (one-result (p .1) (q .1)))

@@ -1,30 +1,33 @@
-// Prediction, check and writing as functions that a C program links: `rt staticlib linked`.
+// Prediction, transfer, check and writing as functions that a C program links: `rt staticlib linked`.
 //
 // What is asked and answered is bytes and single numbers, so that a caller in C needs no layout of
 // ours. A slice is a pointer and a length. All functions are proved and total, and the crate assumes
 // nothing.
+use card::Asked;
 use conic::Outcome;
 use conic::State;
 use deck::Answer;
 use deck::Residuals;
 use layout::Written;
+use ruling::Fault;
 ghost use mathlib.Core.Path.{_≡_};
 ghost use lib.ListN.{length};
 ghost use Rattle.rows.specs.Rows.{refusalIn};
-ghost use Rattle.card.specs.Fields.{problemOf};
+ghost use Rattle.card.specs.Fields.{problemOf, transferOf};
+ghost use Rattle.lambert.specs.Lambert.{answerTo};
 ghost use Rattle.kepler.specs.Kepler.{keplerOf};
 ghost use Rattle.deck.specs.Said as deck;
 ghost use Rattle.deck.specs.Check.{answerOf, listAfter};
 ghost use Rattle.layout.specs.Written.{lengthFor, bufferAfter};
 ghost use Rattle.problems.specs.Problems.{problemCards};
-ghost use Rattle.linked.specs.Linked.{outcomeNumber, stateSum, sumAfter, minusNumber, meanIn, sizeAfter};
+ghost use Rattle.linked.specs.Linked.{outcomeNumber, stateSum, velocitySum, sumAfter, minusNumber, meanIn, sizeAfter};
 
 // Kepler on the problem with which the bytes begin. Where it is solved the answer is 0, and `sum`
 // becomes x + rx + ry + rz + vx + vy + vz; else the refusal's number, and `sum` stays as it was lent.
 #[no_mangle]
 pub extern "C" fn tailfiddle_predict(problem: &[u8], sum: &mut f64) -> u32
     ensures { λ r. ⌜ r ≡ outcomeNumber (keplerOf (problemOf (now (problem .entry)))) ⌝ }
-    ensures { λ _. ⌜ now (sum .exit) ≡ sumAfter (keplerOf (problemOf (now (problem .entry)))) (now (sum .entry)) ⌝ }
+    ensures { λ _. ⌜ now (sum .exit) ≡ sumAfter stateSum (keplerOf (problemOf (now (problem .entry)))) (now (sum .entry)) ⌝ }
 {
     match kepler::kepler(card::problem(problem)) {
         Outcome::Solved { x, count: _, state } => {
@@ -33,6 +36,31 @@ pub extern "C" fn tailfiddle_predict(problem: &[u8], sum: &mut f64) -> u32
         }
         Outcome::Refused(why, _) => why.number(),
         Outcome::RefusedWithBracket(why, _, _, _) => why.number(),
+    }
+}
+
+// The required velocity of the transfer with which the bytes begin. Where it is solved the answer is 0,
+// and `sum` becomes z + vx + vy + vz; else the refusal's number, 23 for a way that is neither 0 nor 1,
+// and `sum` stays as it was lent.
+#[no_mangle]
+pub extern "C" fn tailfiddle_transfer(transfer: &[u8], sum: &mut f64) -> u32
+    ensures { λ r. ⌜ r ≡ outcomeNumber (answerTo (transferOf (now (transfer .entry)))) ⌝ }
+    ensures { λ _. ⌜ now (sum .exit) ≡ sumAfter velocitySum (answerTo (transferOf (now (transfer .entry)))) (now (sum .entry)) ⌝ }
+{
+    let Asked::Transfer(q) = card::transfer(transfer) else {
+        return Fault::WordNotAllowed.number();
+    };
+    match lambert::lambert(q) {
+        lambert::Outcome::Solved {
+            z,
+            count: _,
+            velocity,
+        } => {
+            *sum = z + velocity.x + velocity.y + velocity.z;
+            0
+        }
+        lambert::Outcome::Refused(why, _) => why.number(),
+        lambert::Outcome::RefusedWithBracket(why, _, _, _) => why.number(),
     }
 }
 

@@ -64,6 +64,9 @@ line-most place kind.Solved body (rejected j) e = simp length-append (omega (ari
 line-most place kind.Refused body (solved x) e = absurd (never-solved body x e)
 line-most place kind.Refused body refused e = simp length-append (omega (arith, accepted-digit))
 line-most place kind.Refused body (rejected j) e = simp length-append (omega (arith, rejected-digits kind.Refused body j e))
+line-most place kind.Transfer body (solved x) e = simp length-append (omega (arith, accepted-digit))
+line-most place kind.Transfer body refused e = simp length-append (omega (arith, accepted-digit))
+line-most place kind.Transfer body (rejected j) e = simp length-append (omega (arith, rejected-digits kind.Transfer body j e))
 
 -- the lines of the cards from a place on
 cards-most : (place : ℕ) (cards : List Card) → 0 < place → place + length cards ≤ 1000 → let n = countedAll nothing (verdictsOf cards) in length (cardLines place cards) + (2 * n .solved + n .refused) + digitsBefore place ≤ 17 * length cards + digitsBefore (place + length cards)

@@ -2,8 +2,9 @@
 // and what becomes of what is lent. The problem on standard input makes a deck of one card, 148 bytes.
 // It is written into parts of a buffer, of 7 to 150 bytes; taken apart into short lists and lists that
 // fit; its fields are written anew as a card of kind 0, 1 and 2, as one into a short buffer, and as
-// 257; and the deck is copied. A line is written for each list or buffer of which a part is lent: the
-// refusal's number (0: none), and how many of its places still have the value 97 that all had.
+// 257, and fields that are all 0 as a card of kind 3; and the deck is copied. A line is written for
+// each list or buffer of which a part is lent: the refusal's number (0: none), and how many of its
+// places still have the value 97 that all had.
 use apart::Apart;
 use layout::Written;
 ghost use Prim.Native.Nat.{_≤_};
@@ -59,6 +60,7 @@ fn finish_all(deck: &[u8]) {
     finish_in(&[0u32; 1], &fields, 150);
     finish_in(&[1u32; 1], &fields, 150);
     finish_in(&[2u32; 1], &fields, 150);
+    finish_in(&[3u32; 1], &[0u8; 104], 150);
     finish_in(&[1u32; 1], &fields, 147);
     finish_in(&[1u32; 257], &fields, 150);
 }

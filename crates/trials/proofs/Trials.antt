@@ -19,11 +19,12 @@ use Rattle.text.specs.Text.{decimal, hex}
 use Rattle.card.specs.Fields.{kindOf, kindNumber, sizeOf, problemOf}
 use Rattle.contents.specs.Contents.{entryIn, cardsFrom, cardsOf}
 use Rattle.layout.specs.Layout.{entriesFrom, bodiesOf, deckOf}
-use Rattle.verdict.specs.Verdict.{unfoldsTo, atX, solvedCard, refusedCard, verdictOn}
+use Rattle.compared.specs.Compared.{timedBy, foundBy, answeredBy}
+use Rattle.verdict.specs.Verdict.{atX, solvedCard, refusedCard, verdictOn}
 use Rattle.deck.specs.Tally.{countedAll, residualsOf}
 use Rattle.listing.specs.Listing.{cardLines, listingOf}
 use Rattle.trials.specs.Table.{AllHold, table}
 
 pub all-hold : AllHold table
-unfolding round add sub mul div neg lt le eq ne ofInt ofBits toBits magnitude isNear steps wholeRoot radicand nearestRoot rootOf firstGuess narrowedBy nextGuess hunt searchOf must onward coefficients workedFrom worked functionsAt timeAt unfolded arrivalOf arrivalAt inputsTested rooted radiusOf unitOf testedBy scaledBy scaledOf farEndOf bracketedBy startOf entryOf keplerOf value valueAt bytesOf wordsBytes kindOf kindNumber sizeOf problemOf unfoldsTo atX solvedCard refusedCard verdictOn entryIn cardsFrom cardsOf entriesFrom bodiesOf deckOf countedAll residualsOf decimal hex cardLines listingOf
+unfolding round add sub mul div neg lt le eq ne ofInt ofBits toBits magnitude isNear steps wholeRoot radicand nearestRoot rootOf firstGuess narrowedBy nextGuess hunt searchOf must onward coefficients workedFrom worked functionsAt timeAt unfolded arrivalOf arrivalAt inputsTested rooted radiusOf unitOf testedBy scaledBy scaledOf farEndOf bracketedBy startOf entryOf keplerOf value valueAt bytesOf wordsBytes kindOf kindNumber sizeOf problemOf timedBy foundBy answeredBy atX solvedCard refusedCard verdictOn entryIn cardsFrom cardsOf entriesFrom bodiesOf deckOf countedAll residualsOf decimal hex cardLines listingOf
 all-hold = (refl, (refl, (refl, (refl, (refl, (refl, (refl, (refl, (refl, (refl, (refl, (refl, (refl, (refl, (refl, (refl, (refl, tt)))))))))))))))))

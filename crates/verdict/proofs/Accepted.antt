@@ -26,10 +26,14 @@ use Rattle.card.specs.declared.Kind.{Kind}
 use Rattle.card.specs.declared.Kind.the-variants as kind
 use Rattle.card.specs.Fields.{problemOf, spareOf, xOf, refusalOf, lastSpareOf}
 use Rattle.ruling.specs.Said.{solved, numberIn}
-use Rattle.verdict.specs.Verdict.{solvedCard, isRefusedWith, refusedCard, asSolved, asRefused, verdictOn}
+use Rattle.compared.specs.Said.{asSolved, asRefused}
+use Rattle.compared.proofs.Theorems.{as-solved}
+use Rattle.transfer_verdict.specs.TransferVerdict.{transferCard}
+use Rattle.transfer_verdict.proofs.Accepted as transfer
+use Rattle.verdict.specs.Verdict.{solvedCard, isRefusedWith, refusedCard, verdictOn}
 use Rattle.verdict.proofs.StateWords.{stateWords, wordsOf}
 use Rattle.verdict.proofs.Tests.{solved-is, solved-passes, refused-tests}
-use Rattle.verdict.proofs.Rejected.{as-solved, zero-accepts}
+use Rattle.verdict.proofs.Rejected.{zero-accepts}
 
 -- ---- a solved card
 
@@ -105,6 +109,24 @@ good-enough body g =
       state-bits = g .state-bits;
     })
 
+-- ---- a solved transfer
+
+pub transfer-accepted-means : (body : List ℕ) (residual : Float) → verdictOn kind.Transfer body ≡ solved residual → transfer.Accepted body residual
+unfolding verdictOn
+transfer-accepted-means body residual h = transfer.accepted-means body residual (as-solved (transferCard body) (pass residual) h)
+
+pub transfer-zero-means : (body : List ℕ) → numberIn (verdictOn kind.Transfer body) ≡ 0 → (residual : Float) × (verdictOn kind.Transfer body ≡ solved residual) × transfer.Accepted body residual
+unfolding verdictOn
+transfer-zero-means body z = go (transferCard body) refl
+  where
+    go : (c : Checked Float) → transferCard body ≡ c → (residual : Float) × (verdictOn kind.Transfer body ≡ solved residual) × transfer.Accepted body residual
+    go (pass residual) e = (residual, ap asSolved e, transfer.accepted-means body residual e)
+    go (refuse k) e = absurd (zero-accepts kind.Transfer body z k (ap asSolved e))
+
+pub transfer-good-enough : (body : List ℕ) (g : transfer.GoodEnough body) → verdictOn kind.Transfer body ≡ solved (transfer.residualOf body (g .o))
+unfolding verdictOn
+transfer-good-enough body g = ap asSolved (transfer.good-enough body g)
+
 -- ---- a refused card
 
 pub refused-means : (body : List ℕ) → numberIn (verdictOn kind.Refused body) ≡ 0 → (spareOf body ≡ 0) × (lastSpareOf body ≡ 0) × (isRefusedWith (keplerOf (problemOf body)) (refusalOf body) ≡ true)
@@ -134,3 +156,4 @@ residual-plus kind.Solved body r h =
     let t = S .0 .t in
     subst Plus (sym (S .3)) (magnitude-plus (time ⊖ t) (sub-fits binary64 time t, near-difference time t (passed (S .2 .near))))
 residual-plus kind.Refused body r h = absurd (never-solved body r h)
+residual-plus kind.Transfer body r h = transfer.accepted-plus body r (as-solved (transferCard body) (pass r) h)

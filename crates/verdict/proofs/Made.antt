@@ -1,37 +1,41 @@
 -- Kepler's own answers pass: the card that a problem's bytes and Kepler's answer to it make has the problem in it, the zeros and the answer's
--- numbers, so each test of the verdict finds what Kepler found. Any problem can be written as bytes.
+-- numbers, so each test of the verdict finds what Kepler found.
 use mathlib.Core.Path.{_≡_, refl, sym, ap, _∙_, subst}
 use mathlib.Core.Bool.{true}
-use mathlib.Core.List.{List, [], _∷_, _++_, append-nil}
+use mathlib.Core.List.{List, [], _++_, append-nil}
 use Prim.Native.Nat.{ℕ, _+_, _*_}
 use native.Mathlib.Omega.{arith}
-use borrow.Author.Tests.{leb-true}
-use lib.Dec.{T, leb, ltb, eqb, ltb→lt, eqb-refl}
-use lib.ListN.{length, getD, length-append}
+use lib.Dec.{T, ltb, eqb, ltb→lt, eqb-refl}
+use lib.ListN.{length, getD}
 use lib.Ieee.{Float, nan, binary64, fits}
 use lib.Ieee.Bits.{is-true, ofBits-toBits}
 use Rattle.exact.specs.Numbers.{numberOf, wordOf}
 use Rattle.spelled.specs.Spelled.{bytesOf}
 use Rattle.words.specs.Words.{valueAt}
 use Rattle.spelled.proofs.Length.{length-bytes}
-use Rattle.words.proofs.Written.{valueAt-front, valueAt-back, valueAt-bytes, valueAt-last}
+use Rattle.words.proofs.Written.{valueAt-back, valueAt-bytes, valueAt-last}
 use Rattle.conic.specs.declared.State.{State}
-use Rattle.conic.specs.declared.Problem.{Problem}
-use Rattle.rows.specs.Rows.{Checked}
+use Rattle.rows.specs.Rows.{Checked, pass}
 use Rattle.search.specs.Answers as answer
 use Rattle.conic.specs.Said as conic
 use Rattle.conic.specs.Unfolding.{stateAt}
 use Rattle.conic.proofs.Arrival.{Numbered, numbered-is, Arrives, arrives}
-use Rattle.conic.proofs.Fitting.{StateFits, ProblemFits, state-fits}
+use Rattle.conic.proofs.Fitting.{StateFits, state-fits}
+use Rattle.vectors.specs.declared.Vector.{Vector}
+use Rattle.arc.specs.declared.Transfer.{Transfer}
+use Rattle.lambert.specs.Lambert.{lambertOf}
+use Rattle.transfer_verdict.proofs.Made as transfer
 use Rattle.kepler.specs.Kepler.{keplerOf}
 use Rattle.search.proofs.Answers.{RefusalHas}
 use Rattle.kepler.proofs.Laws.{refusal-numbered, IsSolved, solved-means}
 use Rattle.card.specs.declared.Kind.the-variants as kind
-use Rattle.card.specs.Fields.{problemSize, spareSize, answerAt, problemOf, spareOf, xOf, refusalOf, lastSpareOf}
-use Rattle.card.specs.Made.{numbersBytes, problemBytes, spare, solvedNumbers, solvedBody, refusedBody, cardFor}
-use Rattle.card.proofs.Numbers.{AllFit, length-numbers, word-at, number-at}
+use Rattle.card.specs.Fields.{problemSize, transferSize, transferOf, spareSize, answerAt, problemOf, spareOf, xOf, refusalOf, lastSpareOf}
+use Rattle.card.specs.Made.{numbersBytes, spare, solvedNumbers, solvedBody, transferBody, refusedBody, cardFor}
+use Rattle.card.proofs.Numbers.{AllFit, word-at}
+use Rattle.card.proofs.Given.{given-problem, behind-given}
 use Rattle.ruling.specs.Said.{numberIn}
-use Rattle.verdict.specs.Verdict.{isRefusedWith, asRefused, verdictOn}
+use Rattle.compared.specs.Said.{asSolved, asRefused}
+use Rattle.verdict.specs.Verdict.{isRefusedWith, verdictOn}
 use Rattle.verdict.proofs.StateWords.{stateWords, wordsOf}
 use Rattle.verdict.proofs.Tests.{solved-passes, refused-tests}
 
@@ -41,30 +45,20 @@ answer-fits x state w f = (w, (f .0 .0, (f .0 .1, (f .0 .2, (f .1 .0, (f .1 .1, 
 -- ---- a body: a problem's bytes, the spare, and the rest
 
 module _ (given : List ℕ) (sized : length given ≡ problemSize) where
-  given-at : (rest : List ℕ) (k at : ℕ) → leb (at + k) problemSize ≡ true → valueAt k (given ++ rest) at ≡ valueAt k given at
-  given-at rest k at h = valueAt-front k given rest at (rw sized (leb-true (at + k) problemSize h))
-
-  given-problem : (rest : List ℕ) → problemOf (given ++ rest) ≡ problemOf given
-  unfolding problemOf
-  given-problem rest = simp (given-at rest)
-
-  behind-given : (rest : List ℕ) (k at : ℕ) → valueAt k (given ++ rest) (problemSize + at) ≡ valueAt k rest at
-  behind-given rest k at = rw sized at (valueAt-back k given rest at)
-
   spare-is : (rest : List ℕ) → spareOf (given ++ (spare ++ rest)) ≡ 0
-  spare-is rest = behind-given (spare ++ rest) spareSize 0 ∙ valueAt-bytes spareSize 0 rest (omega arith)
+  spare-is rest = behind-given given sized (spare ++ rest) spareSize 0 ∙ valueAt-bytes spareSize 0 rest (omega arith)
 
   behind-spare : (rest : List ℕ) (k at : ℕ) → valueAt k (given ++ (spare ++ rest)) (answerAt + at) ≡ valueAt k rest at
   behind-spare rest k at =
       let far : answerAt + at ≡ problemSize + (spareSize + at) = omega arith in
-      rw (far, behind-given (spare ++ rest) k (spareSize + at)) (rw (length-bytes spareSize 0) at (valueAt-back k spare rest at))
+      rw (far, behind-given given sized (spare ++ rest) k (spareSize + at)) (rw (length-bytes spareSize 0) at (valueAt-back k spare rest at))
 
   -- ---- the cards
 
   pub made-problem : (said : conic.Said) → problemOf (cardFor given said .body) ≡ problemOf given
-  made-problem (answer.solved x n state) = given-problem _
-  made-problem (answer.refused k n) = given-problem _
-  made-problem (answer.refusedWithBracket k n lo hi) = given-problem _
+  made-problem (answer.solved x n state) = given-problem given sized _
+  made-problem (answer.refused k n) = given-problem given sized _
+  made-problem (answer.refusedWithBracket k n lo hi) = given-problem given sized _
 
   -- ---- a solved one
 
@@ -92,7 +86,7 @@ module _ (given : List ℕ) (sized : length given ≡ problemSize) where
       let state-bits : stateWords (solvedBody given x state) ≡ wordsOf (stateAt o x) = state-read x state w ∙ ap wordsOf (sym is) in
       ap numberIn (solved-passes (solvedBody given x state) o (s .start) (record {
         spare-is = spare-is _;
-        entry = rw (given-problem _) (s .entry);
+        entry = rw (given-problem given sized _) (s .entry);
         x-in = rw same-x (s .in-start .1);
         time-finite = rw same-x (s .finite);
         near = rw same-x (s .near);
@@ -107,7 +101,7 @@ module _ (given : List ℕ) (sized : length given ≡ problemSize) where
   refused-made k small e =
       let number : refusalOf (refusedBody given k) ≡ k = behind-spare (bytesOf 4 k ++ spare) 4 0 ∙ valueAt-bytes 4 k spare (omega (arith, numbered-is k small .1)) in
       let last : lastSpareOf (refusedBody given k) ≡ 0 = behind-spare (bytesOf 4 k ++ spare) spareSize 4 ∙ rw length-bytes at (valueAt-last spareSize 0 (bytesOf 4 k) (omega arith)) in
-      ap (λ (c : Checked (Unit {0})). numberIn (asRefused c)) (refused-tests (refusedBody given k) .1 (spare-is _, last, rw (given-problem _, number) e))
+      ap (λ (c : Checked (Unit {0})). numberIn (asRefused c)) (refused-tests (refusedBody given k) .1 (spare-is _, last, rw (given-problem given sized _, number) e))
 
   pub made-passes : numberIn (verdictOn (cardFor given (keplerOf (problemOf given)) .kind) (cardFor given (keplerOf (problemOf given)) .body)) ≡ 0
   made-passes = go (keplerOf (problemOf given)) refl
@@ -117,24 +111,8 @@ module _ (given : List ℕ) (sized : length given ≡ problemSize) where
       go (answer.refused k n) e = refused-made k (subst (RefusalHas Numbered) e (refusal-numbered (problemOf given))) (rw e (is-true (eqb k k) (eqb-refl k)))
       go (answer.refusedWithBracket k n lo hi) e = refused-made k (subst (RefusalHas Numbered) e (refusal-numbered (problemOf given))) (rw e (is-true (eqb k k) (eqb-refl k)))
 
--- ---- every problem can be written as bytes
+-- ---- a solved transfer: each that we solve, made into a card
 
-abbrev numbersIn : Problem → List Float
-numbersIn p = p .mu ∷ p .r .x ∷ p .r .y ∷ p .r .z ∷ p .v .x ∷ p .v .y ∷ p .v .z ∷ p .dt ∷ []
-
-module _ (p : Problem) (f : ProblemFits p) where
-  given-fits : AllFit (numbersIn p)
-  given-fits = (f .mu-fits, (f .r-fits .0, (f .r-fits .1, (f .r-fits .2, (f .v-fits .0, (f .v-fits .1, (f .v-fits .2, (f .dt-fits, tt))))))))
-
-  given-number : (i : ℕ) → T (ltb i 8) → numberOf (valueAt 8 (problemBytes p) (8 * i)) ≡ getD (numbersIn p) i nan
-  given-number i h = number-at (numbersIn p) (bytesOf 4 (p .limit)) given-fits i (ltb→lt i 8 h)
-
-  given-limit : valueAt 4 (problemBytes p) 64 ≡ p .limit
-  given-limit = rw length-numbers at (valueAt-last 4 (p .limit) (numbersBytes (numbersIn p)) (f .limit-fits))
-
-  pub given-as-bytes : (length (problemBytes p) ≡ problemSize) × (problemOf (problemBytes p) ≡ p)
-  unfolding problemOf
-  given-as-bytes = (
-    simp (length-append, length-bytes, length-numbers),
-    rw (given-number 0 tt, given-number 1 tt, given-number 2 tt, given-number 3 tt, given-number 4 tt, given-number 5 tt, given-number 6 tt, given-number 7 tt, given-limit),
-  )
+pub transfer-passes : (given : List ℕ) → length given ≡ transferSize → (q : Transfer) (z : Float) (n : ℕ) (velocity : Vector) → transferOf given ≡ pass q → lambertOf q ≡ answer.solved z n velocity → numberIn (verdictOn kind.Transfer (transferBody given z velocity)) ≡ 0
+unfolding verdictOn
+transfer-passes given sized q z n velocity asked found = ap (λ (c : Checked Float). numberIn (asSolved c)) (transfer.solved-passes given sized z velocity q n asked found .1)

@@ -4,26 +4,26 @@ use mathlib.Core.Path.{_≡_, ap}
 use mathlib.Core.List.{List}
 use Prim.Native.Nat.{ℕ, _<_}
 use native.Mathlib.Omega.{arith}
-use lib.Ieee.{Float}
 use Rattle.search.specs.declared.Bracket.{Bracket}
 use Rattle.conic.specs.declared.Scaled.{Scaled}
-use Rattle.rows.specs.Rows.{Checked, pass, refuse}
+use Rattle.rows.specs.Rows.{refuse}
 use Rattle.rows.proofs.Laws.{Refuses, passes, must-refuses, onward-refuses, refusal-has}
 use Rattle.conic.proofs.Arrival.{Numbered, numbered-is, arrival-refuses}
 use Rattle.entry.proofs.Refusals.{entry-refuses}
 use Rattle.card.specs.declared.Kind.{Kind}
 use Rattle.card.specs.declared.Kind.the-variants as kind
-use Rattle.card.specs.Fields.{problemOf}
+use Rattle.arc_entry.proofs.Refusals.{Eight}
+use Rattle.card.specs.Fields.{problemOf, xOf}
+use Rattle.compared.proofs.Theorems.{as-solved, as-refused}
+use Rattle.compared.proofs.Answered.{answered-refuses}
+use Rattle.transfer_verdict.specs.TransferVerdict.{transferCard}
+use Rattle.transfer_verdict.proofs.Rejected.{transfer-refuses}
 use Rattle.ruling.specs.Said.{rejected, numberIn}
-use Rattle.verdict.specs.Verdict.{unfoldsTo, atX, solvedCard, refusedCard, asSolved, asRefused, verdictOn}
-
-unfolds-refuses : (body : List ℕ) (o : Scaled) (x residual : Float) → Refuses Numbered (unfoldsTo body o x residual)
-unfolding unfoldsTo
-unfolds-refuses body o x residual = onward-refuses _ _ (arrival-refuses o x) (λ state. must-refuses _ 22 _ tt passes)
+use Rattle.verdict.specs.Verdict.{sameState, atX, solvedCard, refusedCard, verdictOn}
 
 at-x-refuses : (body : List ℕ) (o : Scaled) (b : Bracket) → Refuses Numbered (atX body o b)
 unfolding atX
-at-x-refuses body o b = must-refuses _ 20 _ tt (must-refuses _ 6 _ tt (must-refuses _ 21 _ tt (unfolds-refuses body o _ _)))
+at-x-refuses body o b = answered-refuses _ (o .t) _ (sameState body) b (xOf body) tt tt tt tt (arrival-refuses o)
 
 solved-refuses : (body : List ℕ) → Refuses Numbered (solvedCard body)
 unfolding solvedCard
@@ -33,22 +33,16 @@ refused-refuses : (body : List ℕ) → Refuses Numbered (refusedCard body)
 unfolding refusedCard
 refused-refuses body = must-refuses _ 23 _ tt (must-refuses _ 24 _ tt passes)
 
--- a verdict comes from one row of tests alone
-pub as-solved : (c d : Checked Float) → asSolved c ≡ asSolved d → c ≡ d
-as-solved (pass a) (pass b) e = cc
-as-solved (pass a) (refuse k) e = cc
-as-solved (refuse k) (pass a) e = cc
-as-solved (refuse k) (refuse n) e = cc
-
-as-refused : (c : Checked (Unit {0})) (n : ℕ) → asRefused c ≡ rejected n → c ≡ refuse n
-as-refused (pass good) n e = cc
-as-refused (refuse k) n e = cc
+-- the eight numbers of a transfer are such too
+eight : Eight Numbered
+eight = record { p1 = tt; p2 = tt; p3 = tt; p5 = tt; p6 = tt; p50 = tt; p51 = tt; p52 = tt }
 
 -- the number of a rejected card is above 0 and below 100
 pub rejected-numbered : (k : Kind) (body : List ℕ) (n : ℕ) → verdictOn k body ≡ rejected n → (0 < n) × (n < 100)
 unfolding verdictOn
 rejected-numbered kind.Solved body n e = numbered-is n (refusal-has (solved-refuses body) (as-solved (solvedCard body) (refuse n) e))
 rejected-numbered kind.Refused body n e = numbered-is n (refusal-has (refused-refuses body) (as-refused (refusedCard body) n e))
+rejected-numbered kind.Transfer body n e = numbered-is n (refusal-has (transfer-refuses eight tt tt tt tt body) (as-solved (transferCard body) (refuse n) e))
 
 -- so it is not 0
 pub rejected-positive : (k : Kind) (body : List ℕ) (n : ℕ) → verdictOn k body ≡ rejected n → 0 < n

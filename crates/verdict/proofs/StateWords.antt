@@ -2,18 +2,17 @@
 -- equal, since each word is compared with its own.
 use mathlib.Core.Path.{_≡_}
 use mathlib.Core.Logic.{_↔_}
-use mathlib.Core.Bool.{true, _&&_}
+use mathlib.Core.Bool.{true}
 use mathlib.Core.List.{List, [], _∷_}
 use Prim.Native.Nat.{ℕ, _+_}
-use lib.Dec.{T, eqb, eqb→eq}
-use lib.Ieee.Fits.{and-i, and-l, and-r, eq→eqb}
 use Rattle.exact.specs.Numbers.{wordOf}
 use Rattle.exact.proofs.Basics.{both}
 use Rattle.words.specs.Words.{valueAt}
-use Rattle.vectors.specs.declared.Vector.{Vector}
 use Rattle.conic.specs.declared.State.{State}
 use Rattle.card.specs.Fields.{positionAt, velocityAt}
-use Rattle.verdict.specs.Verdict.{sameWords, sameState}
+use Rattle.compared.specs.Compared.{sameWords}
+use Rattle.compared.proofs.Words.{vector-words}
+use Rattle.verdict.specs.Verdict.{sameState}
 
 -- the six words of a body, in order, and those of a state
 abbrev pub stateWords : List ℕ → List ℕ
@@ -28,19 +27,6 @@ stateWords body =
 
 abbrev pub wordsOf : State → List ℕ
 wordsOf state = wordOf (state .r .x) ∷ wordOf (state .r .y) ∷ wordOf (state .r .z) ∷ wordOf (state .v .x) ∷ wordOf (state .v .y) ∷ wordOf (state .v .z) ∷ []
-
--- three words, each against its own
-three : (a b c u v w : ℕ) → T (eqb a u && eqb b v && eqb c w) ↔ ((a ≡ u) × (b ≡ v) × (c ≡ w))
-three a b c u v w = (there, λ e. and-i (eqb a u && eqb b v) (eqb c w) (and-i (eqb a u) (eqb b v) (eq→eqb (e .0)) (eq→eqb (e .1))) (eq→eqb (e .2)))
-  where
-    there : T (eqb a u && eqb b v && eqb c w) → (a ≡ u) × (b ≡ v) × (c ≡ w)
-    there t =
-        let l = and-l (eqb a u && eqb b v) (eqb c w) t in
-        (eqb→eq a u (and-l (eqb a u) (eqb b v) l), eqb→eq b v (and-r (eqb a u) (eqb b v) l), eqb→eq c w (and-r (eqb a u && eqb b v) (eqb c w) t))
-
-vector-words : (body : List ℕ) (at : ℕ) (a : Vector)
-    → T (sameWords body at a) ↔ ((valueAt 8 body at ≡ wordOf (a .x)) × (valueAt 8 body (at + 8) ≡ wordOf (a .y)) × (valueAt 8 body (at + 16) ≡ wordOf (a .z)))
-vector-words body at a = three (valueAt 8 body at) (valueAt 8 body (at + 8)) (valueAt 8 body (at + 16)) (wordOf (a .x)) (wordOf (a .y)) (wordOf (a .z))
 
 pub same-state : (body : List ℕ) (state : State) → (sameState body state ≡ true) ↔ (stateWords body ≡ wordsOf state)
 same-state body state = (there, back)

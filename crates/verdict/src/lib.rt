@@ -6,27 +6,26 @@
 use card::Kind;
 use card::LAST_SPARE;
 use card::NUMBER;
-use card::POSITION;
 use card::SPARE;
-use card::VELOCITY;
 use card::X;
+use compared::Place;
+use compared::Timed;
 use conic::Outcome;
-use conic::Reason;
 use conic::Scaled;
 use conic::unfolding::Arrival;
 use entry::Start;
 use ruling::Fault;
 use ruling::Verdict;
 use search::Bracket;
-use vectors::Vector;
 ghost use mathlib.Core.Path.{_≡_};
-ghost use Prim.Native.Nat.{_≤_};
 ghost use Rattle.rows.specs.Rows.{refusalIn};
 ghost use Rattle.conic.specs.Said as conic;
 ghost use Rattle.entry.specs.Said.{passedStart};
-ghost use Rattle.card.specs.Fields.{velocityAt};
+ghost use Rattle.conic.specs.Unfolding.{arrivalAt};
 ghost use Rattle.ruling.specs.Said.{said};
-ghost use Rattle.verdict.specs.Verdict.{sameWords, isRefusedWith, unfoldsTo, atX, solvedCard, refusedCard, asSolved, asRefused, verdictOn};
+ghost use Rattle.compared.specs.Said.{asSolved, asRefused};
+ghost use Rattle.compared.specs.Compared.{foundBy};
+ghost use Rattle.verdict.specs.Verdict.{sameState, isRefusedWith, atX, solvedCard, refusedCard, verdictOn};
 
 // The verdict on a card.
 pub fn judge(kind: Kind, body: &[u8]) -> Verdict
@@ -35,6 +34,7 @@ pub fn judge(kind: Kind, body: &[u8]) -> Verdict
     match kind {
         Kind::Solved => solved(body),
         Kind::Refused => refused(body),
+        Kind::Transfer => transfer_verdict::judge(body),
     }
 }
 
@@ -66,43 +66,26 @@ fn at_x(body: &[u8], o: Scaled, b: Bracket) -> Verdict
     ensures { λ r. ⌜ said r ≡ asSolved (atX (now (body .entry)) o b) ⌝ }
 {
     let x = card::number(body, X);
-    if !(exact::finite(x) & search::contains(b, x)) {
-        return Verdict::Rejected(Fault::XOutside.number());
+    match compared::time(b, x, o.time_at(x), o.t) {
+        Timed::Rejected(number) => Verdict::Rejected(number),
+        Timed::Residual(residual) => unfolds(body, o, x, residual),
     }
-    let time = o.time_at(x);
-    if !exact::finite(time) {
-        return Verdict::Rejected(Reason::NotFinite.number());
-    }
-    if !exact::near(time, o.t) {
-        return Verdict::Rejected(Fault::TimeOff.number());
-    }
-    unfolds(body, o, x, exact::absolute(time - o.t))
 }
 
 // The state, which is what x unfolds to or is not trusted.
 fn unfolds(body: &[u8], o: Scaled, x: f64, residual: f64) -> Verdict
-    ensures { λ r. ⌜ said r ≡ asSolved (unfoldsTo (now (body .entry)) o x residual) ⌝ }
+    ensures { λ r. ⌜ said r ≡ asSolved (foundBy (arrivalAt o) (sameState (now (body .entry))) x residual) ⌝ }
 {
     match conic::unfolding::arrive_at(o, x) {
         Arrival::Refused(why) => Verdict::Rejected(why.number()),
         Arrival::State(state) => {
-            if same(body, POSITION, state.r) & same(body, VELOCITY, state.v) {
+            if compared::same(body, Place::First, state.r) & compared::same(body, Place::Second, state.v) {
                 Verdict::Solved(residual)
             } else {
                 Verdict::Rejected(Fault::StateDiffers.number())
             }
         }
     }
-}
-
-// Whether the three words of the body from index at on are those of a.
-fn same(body: &[u8], at: usize, a: Vector) -> bool
-    requires { ⌜ at ≤ velocityAt ⌝ }
-    ensures { λ r. ⌜ r ≡ sameWords (now (body .entry)) at a ⌝ }
-{
-    (words::word(body, at) == exact::word(a.x))
-        & (words::word(body, at + 8) == exact::word(a.y))
-        & (words::word(body, at + 16) == exact::word(a.z))
 }
 
 fn refused(body: &[u8]) -> Verdict

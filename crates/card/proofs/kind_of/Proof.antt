@@ -15,7 +15,13 @@ returns-2 c = rw (c .match .keys2) refl
 
 returns-3 : tie.Need-returns-3
 unfolding kindOf
-returns-3 c = rw (ne-eqb (c .before .args .number) 1 (c .match .rest .0 .1), ne-eqb (c .before .args .number) 2 (c .match .rest .1)) refl
+returns-3 c = rw (c .match .keys3) refl
+
+returns-4 : tie.Need-returns-4
+unfolding kindOf
+returns-4 c =
+    let n = c .before .args .number in
+    rw (ne-eqb n 1 (c .match .rest .0 .0 .1), ne-eqb n 2 (c .match .rest .0 .1), ne-eqb n 3 (c .match .rest .1)) refl
 
 pub kind-of-spec : {M : Type 1} → statement M
-kind-of-spec = tie.close (tie.spec returns returns-2 returns-3)
+kind-of-spec = tie.close (tie.spec returns returns-2 returns-3 returns-4)

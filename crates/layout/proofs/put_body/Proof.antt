@@ -1,69 +1,44 @@
--- `layout::put_body` meets its contract: the pieces of a body, one behind the other. Fields of fewer than 68 bytes are all taken for the problem.
-use mathlib.Core.Path.{_≡_, refl, sym, _∙_}
-use mathlib.Core.Bool.{Bool, true, false}
-use mathlib.Core.List.{List}
-use Prim.Native.Nat.{ℕ, _-_, _≤_, _<_, min}
-use native.Mathlib.Omega.{arith}
+-- `layout::put_body` meets its contract: problem, spare and answer, and behind them the last spare of a refused card; of a transfer the fields.
+use mathlib.Core.Path.{_≡_, sym, ap, _∙_}
+use mathlib.Core.List.{List, _++_, append-assoc}
+use Prim.Native.Nat.{ℕ}
 use borrow.Author.Needs.{needs}
-use borrow.Author.Tests.{leb-true, leb-false}
-use lib.Dec.{leb}
-use lib.ListN.{length, take, drop, length-drop, drop-of-length-le}
-use lib.Seq.{length-take-le, take-all}
+use lib.ListN.{take, drop, take-append-drop}
 use Rattle.pieces.proofs.Puts.{puts, renamed, wrote, both}
 use Rattle.card.specs.Fields.{problemSize}
+use Rattle.card.specs.Made.{spare}
 use Rattle.layout.proofs.put_body.Statement.{statement}
 use Rattle.layout.proofs.put_body.Tie as tie
 
--- fields of which n bytes are taken for the problem, and the rest for the answer
-abbrev Parted : (fields : List ℕ) (n : ℕ) → Type 0
-Parted fields n = (take n fields ≡ take problemSize fields) × (take (length fields - n) (drop n fields) ≡ drop problemSize fields)
-
-behind : (fields : List ℕ) (n : ℕ) → take (length fields - n) (drop n fields) ≡ drop n fields
-behind fields n = take-all (length fields - n) (drop n fields) (rw (length-drop n fields) (omega arith))
-
-parted : (fields : List ℕ) {n : ℕ} → n ≡ min problemSize (length fields) → Parted fields n
-parted fields {n} e = go (leb problemSize (length fields)) refl
-  where
-    go : (b : Bool) → leb problemSize (length fields) ≡ b → Parted fields n
-    go true h =
-        let all : n ≡ problemSize = omega (arith, e, leb-true problemSize (length fields) h) in
-        rw all (refl, behind fields problemSize)
-    go false h =
-        let short : length fields < problemSize = leb-false problemSize (length fields) h in
-        let all : length fields ≤ n = omega (arith, e, short) in (
-          take-all n fields all ∙ sym (take-all problemSize fields (omega (arith, short))),
-          behind fields n ∙ drop-of-length-le fields all ∙ sym (drop-of-length-le fields {i = problemSize} (omega (arith, short))),
-        )
-
-slice-aggregate-put : tie.Need-slice-aggregate-put
-slice-aggregate-put c = sym (length-take-le (c .before .before .given .result) (c .before .before .before .before .before .args .fields .now) (omega (arith, c .before .before .given .ensures)))
+-- four pieces, however they are bracketed
+four : (a b c d : List ℕ) → (a ++ (b ++ c)) ++ d ≡ a ++ (b ++ (c ++ d))
+four a b c d = append-assoc a (b ++ c) d ∙ ap (λ (l : List ℕ). a ++ l) (append-assoc b c d)
 
 returns : tie.Need-returns
-returns c =
-    let p = parted (c .before .before .before .before .before .before .before .before .before .before .before .before .before .before .before .before .before .before .before .args .fields .now) (c .before .before .before .before .before .before .before .before .before .before .before .before .before .before .before .before .given .ensures) in
-    rw (c .enum-told .given .1) (both (puts (renamed (p .0) (wrote (c .before .before .before .before .before .before .before .before .before .before .before .before .before .put .ensures))) (puts (wrote (c .before .before .before .before .before .before .before .before .before .put-half .ensures)) (renamed (p .1) (wrote (c .before .before .before .before .put2 .ensures))))))
+returns c = rw (c .before .before .before .before .enum-told .given .1) (both (c .before .before .put-spared .ensures))
 
 returns-2 : tie.Need-returns-2
 returns-2 c =
-    let p = parted (c .before .before .before .before .before .before .before .before .before .before .before .before .before .before .before .before .before .before .before .before .before .before .before .args .fields .now) (c .before .before .before .before .before .before .before .before .before .before .before .before .before .before .before .before .before .before .before .before .given .ensures) in
-    rw (c .before .before .before .before .enum-told2 .given .1) (both (puts (renamed (p .0) (wrote (c .before .before .before .before .before .before .before .before .before .before .before .before .before .before .before .before .before .put .ensures))) (puts (wrote (c .before .before .before .before .before .before .before .before .before .before .before .before .before .put-half .ensures)) (puts (renamed (p .1) (wrote (c .before .before .before .before .before .before .before .before .put2 .ensures))) (wrote (c .before .before .put-half2 .ensures))))))
+    let fields = c .before .before .before .before .before .before .before .before .before .before .before .before .args .fields .now in
+    rw (c .before .before .before .before .before .before .before .before .enum-told2 .given .1) (both (renamed (four (take problemSize fields) spare (drop problemSize fields) spare) (puts (c .before .before .before .before .before .before .put-spared2 .ensures) (wrote (c .before .before .put-half .ensures)))))
+
+returns-3 : tie.Need-returns-3
+returns-3 c = rw (c .before .before .before .before .enum-told3 .given .1) (both (renamed (sym (take-append-drop problemSize (c .before .before .before .before .before .before .before .before .args .fields .now))) (wrote (c .before .before .put .ensures))))
 
 pub put-body-spec : {M : Type 1} → statement M
 put-body-spec =
     tie.close
     (tie.spec
-    (λ c κs. search needs)
-    slice-aggregate-put
-    (λ c κs. search needs)
-    (λ c κs. search needs)
-    (λ c. search needs)
-    (λ c. search needs)
     (λ c. search needs)
     (λ c κs. search needs)
     (λ c. search needs)
+    (λ c κs. search needs)
+    (λ c κs. search needs)
     (λ c. search needs)
     (λ c κs. search needs)
     (λ c. search needs)
     returns
     (λ c. search needs)
-    returns-2)
+    returns-2
+    (λ c. search needs)
+    returns-3)

@@ -4,9 +4,10 @@ use mathlib.Core.List.{List}
 use Prim.Native.Nat.{ℕ}
 use Rattle.root.specs.Root.{rootOf}
 use Rattle.kepler.specs.Kepler.{keplerOf}
-use Rattle.card.specs.Fields.{numberAt, problemOf}
+use Rattle.card.specs.Fields.{numberAt, problemOf, transferOf}
+use Rattle.lambert.specs.Lambert.{answerTo}
 use Rattle.line.specs.declared.Question.the-variants as question
-use Rattle.outcomes.specs.Outcomes.{outcomeLine}
+use Rattle.outcomes.specs.Outcomes.{outcomeLine, transferLine}
 use Rattle.line.specs.Line.{lineOf, rootLine, turned}
 use Rattle.pieces.specs.Pieces.{Put}
 use Rattle.pieces.proofs.Puts.{renamed, wrote, both}
@@ -26,6 +27,10 @@ kepler-of bytes = refl
 theta-of : (bytes : List ℕ) → lineOf question.Theta bytes ≡ outcomeLine (turned (problemOf bytes))
 unfolding lineOf
 theta-of bytes = refl
+
+transfer-of : (bytes : List ℕ) → lineOf question.Transfer bytes ≡ transferLine (answerTo (transferOf bytes))
+unfolding lineOf
+transfer-of bytes = refl
 
 -- the line of an answer s to the question p that was read, which is what is asked
 as-asked : {Q A : Type 0} (line : A → List ℕ) (answer : Q → A) {text before after : List ℕ} {at end : ℕ} {p q : Q} {s : A}
@@ -50,6 +55,12 @@ returns-3 c =
     let answer = line .before .before in
     rw (answer .before .before .enum-told3 .given .1) (both (as-asked outcomeLine turned (theta-of _) (answer .before .problem2 .ensures) (answer .turned .ensures) (wrote (line .put2 .ensures))))
 
+returns-4 : tie.Need-returns-4
+returns-4 c =
+    let line = c .before .before in
+    let read = line .before .before in
+    rw (read .before .enum-told4 .given .1) (both (as-asked (λ a. transferLine (answerTo a)) transferOf (transfer-of _) refl (read .transfer .ensures) (line .transfer-line .ensures)))
+
 pub line-spec : {M : Type 1} → statement M
 line-spec =
     tie.close
@@ -67,8 +78,13 @@ line-spec =
     (λ c κs. search needs)
     (λ c κs. search needs)
     (λ c. search needs)
+    (λ c κs. search needs)
+    (λ c κs. search needs)
+    (λ c. search needs)
     returns
     (λ c. search needs)
     returns-2
     (λ c. search needs)
-    returns-3)
+    returns-3
+    (λ c. search needs)
+    returns-4)

@@ -1,0 +1,4 @@
+pub mod Words
+pub mod Answered
+pub mod Theorems
+pub mod Fixed

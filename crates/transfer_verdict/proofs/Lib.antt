@@ -1,0 +1,4 @@
+pub mod Accepted
+pub mod Rejected
+pub mod Made
+pub mod Fixed

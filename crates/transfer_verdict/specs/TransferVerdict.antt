@@ -1,0 +1,28 @@
+-- The verdict on a solved transfer, from the bytes of its body alone: RULES, Verdicts 12 to 18. Definitions only.
+use Prim.Native.Nat.{ℕ}
+use mathlib.Core.Bool.{Bool}
+use mathlib.Core.List.{List}
+use lib.Ieee.{Float}
+use Rattle.rows.specs.Rows.{Checked, pass, must, onward}
+use Rattle.search.specs.declared.Bracket.{Bracket}
+use Rattle.vectors.specs.declared.Vector.{Vector}
+use Rattle.arc.specs.declared.Scaled.{Scaled}
+use Rattle.arc.specs.Arc.{timeAt, velocityAt}
+use Rattle.arc_entry.specs.ArcEntry.{entryOf}
+use Rattle.card.specs.Fields.{transferOf, zOf, departureAt}
+use Rattle.compared.specs.Compared.{answeredBy, sameWords}
+
+abbrev pub sameVelocity : List ℕ → Vector → Bool
+sameVelocity body v = sameWords body departureAt v
+
+-- Verdicts 14 to 18: 20, 6, 21, then 6 for the velocity and 22
+unfoldable pub atZ : List ℕ → Scaled → Bracket → Checked Float
+atZ body o b = answeredBy (timeAt o) (o .t) (velocityAt o) (sameVelocity body) b (zOf body)
+
+-- Verdicts 12 and 13: 23 for the way; then the refusal of the card's own transfer, by the tests before the first guess; and the tests above. The
+-- first that holds is the verdict
+unfoldable pub transferCard : List ℕ → Checked Float
+transferCard body =
+    onward (transferOf body) (λ q.
+    onward (entryOf q) (λ e.
+    atZ body (e .0) (e .1)))
