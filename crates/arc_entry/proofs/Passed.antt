@@ -67,8 +67,7 @@ started s e h =
     let first = test-passed (isFinite low) 6 (must (not (lt t low)) 51 (must (isFinite high) 6 (must (not (lt high t)) 52 answer))) h in
     let second = test-passed (not (lt t low)) 51 (must (isFinite high) 6 (must (not (lt high t)) 52 answer)) (first .1) in
     let third = test-passed (isFinite high) 6 (must (not (lt high t)) 52 answer) (second .1) in
-    let fourth = test-passed (not (lt high t)) 52 answer (third .1) in
-    (
+    let fourth = test-passed (not (lt high t)) 52 answer (third .1) in (
       record { first-finite = first .0; first-reached = not-true (lt t low) (second .0); last-finite = third .0; last-reaches = not-true (lt high t) (fourth .0) },
       sym (pass-once (fourth .1)),
     )

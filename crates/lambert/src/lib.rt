@@ -25,7 +25,11 @@ ghost use Rattle.lambert.specs.Lambert.{lambertOf};
 
 // A transfer's answer. The bracket's ends come with reasons 9 and 10.
 pub enum Outcome {
-    Solved { z: f64, count: u32, velocity: Vector },
+    Solved {
+        z: f64,
+        count: u32,
+        velocity: Vector,
+    },
     Refused(Reason, u32),
     RefusedWithBracket(Reason, u32, f64, f64),
 }

@@ -79,7 +79,9 @@ fn unfolds(body: &[u8], o: Scaled, x: f64, residual: f64) -> Verdict
     match conic::unfolding::arrive_at(o, x) {
         Arrival::Refused(why) => Verdict::Rejected(why.number()),
         Arrival::State(state) => {
-            if compared::same(body, Place::First, state.r) & compared::same(body, Place::Second, state.v) {
+            if compared::same(body, Place::First, state.r)
+                & compared::same(body, Place::Second, state.v)
+            {
                 Verdict::Solved(residual)
             } else {
                 Verdict::Rejected(Fault::StateDiffers.number())
