@@ -6,7 +6,7 @@ use Prim.Native.Nat.{ℕ}
 use lib.Dec.{T}
 use lib.Ieee.{Float, binary64, fits}
 use lib.Ieee.Fits.{add-fits}
-use Rattle.exact.specs.Numbers.{_⊕_, _⊗_, _⊘_}
+use Rattle.exact.specs.Numbers.{_⊗_, _⊘_}
 use Rattle.rows.specs.Rows.{pass, must}
 use Rattle.rows.proofs.Laws.{pass-once, test-passed, Refuses, passes, must-refuses}
 use Rattle.vectors.specs.declared.Vector.{Vector}

@@ -37,11 +37,11 @@ pub struct Scaled {
 }
 
 // The conic's shape at z: S, k, y and g.
-pub struct Shape {
-    pub s: f64,
-    pub k: f64,
-    pub y: f64,
-    pub g: f64,
+struct Shape {
+    s: f64,
+    k: f64,
+    y: f64,
+    g: f64,
 }
 
 // Why a transfer is refused.

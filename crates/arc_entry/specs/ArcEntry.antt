@@ -1,6 +1,6 @@
 -- The tests of a transfer before the first guess and what they compute: STEPS, Required velocity 1 to 7 and 14, with the refusals in their
 -- order. Definitions only.
-use mathlib.Core.Bool.{cond, not, _&&_}
+use mathlib.Core.Bool.{not, _&&_}
 use lib.Ieee.{Float, lt, neg}
 use Rattle.exact.specs.Numbers.{_⊕_, _⊖_, _⊗_, _⊘_, numberOf, nought, one, isFinite, magnitude}
 use Rattle.rows.specs.Rows.{Checked, pass, must, onward}

@@ -1,7 +1,7 @@
 -- Numbers that were written are read back: the i-th of a list stands in eight bytes from 8 * i on, its word fits in them, and a number that
 -- fits binary64 is that of its word, NaN included.
-use mathlib.Core.Path.{_≡_, refl, ap, _∙_}
-use mathlib.Core.List.{List, [], _∷_, _++_, append-assoc}
+use mathlib.Core.Path.{_≡_, refl, sym, ap, _∙_}
+use mathlib.Core.List.{List, [], _∷_, _++_, append-assoc, append-nil}
 use Prim.Native.Nat.{ℕ, zero, suc, _+_, _*_, _^_, _<_}
 use native.Mathlib.Omega.{arith}
 use lib.Dec.{T}
@@ -41,6 +41,10 @@ word-at (x ∷ l) rest w (suc i) h =
     let bytes = bytesOf 8 (wordOf x) in
     let next : 8 * suc i ≡ length bytes + 8 * i = rw length-bytes (omega arith) in
     rw (append-assoc, next, valueAt-back 8 bytes (numbersBytes l ++ rest) (8 * i)) (word-at l rest (w .1) i (omega arith))
+
+-- and where nothing stands behind them
+pub word-in : (l : List Float) → AllFit l → (i : ℕ) → i < length l → valueAt 8 (numbersBytes l) (8 * i) ≡ wordOf (getD l i nan)
+word-in l w i h = ap (λ (bytes : List ℕ). valueAt 8 bytes (8 * i)) (sym (append-nil (numbersBytes l))) ∙ word-at l [] w i h
 
 pub number-at : (l : List Float) (rest : List ℕ) → AllFit l → (i : ℕ) → i < length l → numberOf (valueAt 8 (numbersBytes l ++ rest) (8 * i)) ≡ getD l i nan
 number-at l rest w i h = ap numberOf (word-at l rest w i h) ∙ ofBits-toBits binary64 (getD l i nan) (each-fits l w i)

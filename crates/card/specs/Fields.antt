@@ -101,18 +101,15 @@ answerAt = problemSize + spareSize
 abbrev pub xOf : List ℕ → Float
 xOf body = numberAt body answerAt
 
-abbrev pub positionAt : ℕ
-positionAt = answerAt + 8
+abbrev pub positionFrom : ℕ
+positionFrom = answerAt + 8
 
-abbrev pub velocityAt : ℕ
-velocityAt = positionAt + 24
+abbrev pub velocityFrom : ℕ
+velocityFrom = positionFrom + 24
 
--- The deck 7: z, and where the velocity begins
+-- The deck 7: z; the velocity begins where a solved card has its position
 abbrev pub zOf : List ℕ → Float
 zOf body = numberAt body answerAt
-
-abbrev pub departureAt : ℕ
-departureAt = answerAt + 8
 
 -- The deck 6: the refusal's number and the last spare
 abbrev pub refusalOf : List ℕ → ℕ

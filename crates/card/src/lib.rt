@@ -23,10 +23,14 @@ pub const TRANSFER: usize = PROBLEM + 4;
 
 pub const BODY: usize = 128;
 
+// The bytes of a transfer's body. It has no spare, so its fields are all of them.
+const TRANSFER_BODY: usize = 104;
+
 pub const FIELDS: usize = 124;
 
 // Where the fields of a body begin behind these: the spare, or a transfer's way; of a solved card x,
-// position and velocity; of a refused one the number and a spare; of a transfer z and velocity.
+// position and velocity; of a refused one the number and a spare; of a transfer z and, where a solved card
+// has its position, the velocity.
 pub const SPARE: usize = PROBLEM;
 
 pub const X: usize = SPARE + SPARE_SIZE;
@@ -40,8 +44,6 @@ pub const NUMBER: usize = X;
 pub const LAST_SPARE: usize = NUMBER + 4;
 
 pub const Z: usize = X;
-
-pub const DEPARTURE: usize = Z + 8;
 
 // A card's kind: a solved problem, a refused one, or a solved transfer.
 pub enum Kind {
@@ -81,7 +83,7 @@ impl Kind {
         match self {
             Kind::Solved => FIELDS,
             Kind::Refused => 72,
-            Kind::Transfer => 104,
+            Kind::Transfer => TRANSFER_BODY,
         }
     }
 
@@ -92,7 +94,7 @@ impl Kind {
         match self {
             Kind::Solved => BODY,
             Kind::Refused => 80,
-            Kind::Transfer => 104,
+            Kind::Transfer => TRANSFER_BODY,
         }
     }
 }

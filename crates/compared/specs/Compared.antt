@@ -11,7 +11,7 @@ use Rattle.rows.specs.Rows.{Checked, pass, must, onward}
 use Rattle.search.specs.declared.Bracket.{Bracket}
 use Rattle.search.specs.Search.{within}
 use Rattle.vectors.specs.declared.Vector.{Vector}
-use Rattle.card.specs.Fields.{positionAt, velocityAt}
+use Rattle.card.specs.Fields.{positionFrom, velocityFrom}
 use Rattle.compared.specs.declared.Place.{Place}
 use Rattle.compared.specs.declared.Place.the-variants as place
 
@@ -42,5 +42,5 @@ sameWords body at a = eqb (valueAt 8 body at) (wordOf (a .x)) && eqb (valueAt 8 
 
 -- where a vector stands in a solved card: behind the unknown, or behind the first vector
 abbrev pub placeAt : Place → ℕ
-placeAt place.First = positionAt
-placeAt place.Second = velocityAt
+placeAt place.First = positionFrom
+placeAt place.Second = velocityFrom

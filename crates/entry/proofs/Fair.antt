@@ -2,15 +2,13 @@
 -- Forwards that is 0 to X, and backwards -X to 0.
 use mathlib.Core.Path.{_≡_, refl, sym, ap, _∙_, subst}
 use mathlib.Core.Bool.{Bool, true, false, cond}
-use lib.Dec.{T}
 use lib.Ieee.{Float, lt, le, neg}
 use lib.Ieee.Bits.{is-true}
 use Rattle.exact.specs.Numbers.{nought, isFinite}
 use Rattle.exact.proofs.Zero.{nought-number}
 use Rattle.search.specs.declared.Bracket.{Bracket}
-use Rattle.search.specs.Search.{within}
 use Rattle.search.proofs.Hunt.{pointAt}
-use Rattle.search.proofs.Laws.{within-finite, forwards, backwards}
+use Rattle.search.proofs.Laws.{forwards, backwards}
 use Rattle.search.proofs.Answers.{Fair}
 use Rattle.conic.specs.declared.Problem.{Problem}
 use Rattle.conic.specs.declared.Scaled.{Scaled}
@@ -63,7 +61,3 @@ fair p o b e = subst (Fair (timeAt o) (o .t)) (sym (e .bracket-is)) (go (le noug
     go : (u : Bool) → le nought (o .t) ≡ u → Fair (timeAt o) (o .t) (startingBracket (o .t) (pointAt (timeAt o) (cond (le nought (o .t)) (e .far) (neg (e .far)))))
     go true h = rw h (to-far o (e .numbers) (e .far) far-is h (rw h at (e .far-reaches .finite)) (rw h at (e .far-reaches .reaches)))
     go false h = rw h (from-far o (e .numbers) (e .far) far-is h (rw h at (e .far-reaches .finite)) (rw h at (e .far-reaches .reaches)))
-
--- so what lies in it is finite
-pub in-start-finite : (p : Problem) (o : Scaled) (b : Bracket) → Entered p o b → (x : Float) → within b x ≡ true → T (isFinite x)
-in-start-finite p o b e x w = let s = fair p o b e .starts in within-finite b x (s .lo-number) (s .hi-number) w

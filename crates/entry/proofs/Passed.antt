@@ -9,7 +9,7 @@ use lib.Ieee.{Float, binary64, lt, le, neg, fits}
 use lib.Ieee.Fits.{add-fits, sub-fits, div-fits}
 use lib.Ieee.Bits.{is-true}
 use Rattle.exact.specs.Numbers.{_⊕_, _⊖_, _⊗_, _⊘_, nought, two, isFinite, Number}
-use Rattle.exact.proofs.Basics.{passed, both}
+use Rattle.exact.proofs.Basics.{both}
 use Rattle.search.specs.declared.Bracket.{Bracket}
 use Rattle.search.proofs.Hunt.{pointAt}
 use Rattle.vectors.specs.declared.Vector.{Vector}
@@ -22,7 +22,6 @@ use Rattle.units.specs.Units.{radiusOf, unitOf, numbered}
 use Rattle.conic.specs.TimeAndRatio.{timeAt}
 use Rattle.entry.specs.Entry.{straight, inputsTested, testedBy, scaledBy, scaledOf, farEndOf, startingBracket, bracketedBy, startOf, entryOf}
 use Rattle.rows.proofs.Laws.{pass-once, test-passed, rows-passed}
-use Rattle.conic.proofs.Fitting.{time-fits}
 
 -- ---- the scaled problem
 
@@ -123,7 +122,3 @@ entered p o b h =
       far-reaches = B .0;
       bracket-is = refl;
     })
-
--- where the time at x is finite, it and the wanted one are numbers
-pub times-are : (p : Problem) (o : Scaled) (b : Bracket) → Entered p o b → (x : Float) → isFinite (timeAt o x) ≡ true → Number binary64 (timeAt o x) × Number binary64 (o .t)
-times-are p o b e x f = ((time-fits o x, passed f), e .numbers .t-number)

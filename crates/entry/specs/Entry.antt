@@ -1,8 +1,8 @@
 -- The tests before the first guess and what they compute: RULES, From the state to the scaled problem ("scaling" below), and Refusal
 -- numbers, in order of test. Definitions only.
-use mathlib.Core.Bool.{Bool, cond, not, _&&_}
+use mathlib.Core.Bool.{cond, not, _&&_}
 use lib.Ieee.{Float, lt, le, neg}
-use Rattle.exact.specs.Numbers.{_⊕_, _⊖_, _⊗_, _⊘_, numberOf, nought, two, isFinite, magnitude}
+use Rattle.exact.specs.Numbers.{_⊖_, _⊗_, _⊘_, numberOf, nought, two, isFinite, magnitude}
 use Rattle.search.specs.declared.Point.{Point}
 use Rattle.search.specs.declared.Bracket.{Bracket}
 use Rattle.vectors.specs.declared.Vector.{Vector}

@@ -43,9 +43,9 @@ module _ (p : Problem) where
   unfolding keplerOf
   counts = search.counts timeAt wantedTime arrivalAt (p .limit) (entryOf p) least
 
-  pub refusal-numbered : RefusalHas Numbered (keplerOf p)
+  pub refusal-numbered : RefusalHas Numbered Numbered (keplerOf p)
   unfolding keplerOf
-  refusal-numbered = search.refusal-numbered timeAt wantedTime arrivalAt (p .limit) (entryOf p) tt tt tt (entry-refuses p) arrival-refuses
+  refusal-numbered = search.refusal-numbered timeAt wantedTime arrivalAt (p .limit) (entryOf p) Numbered tt tt tt (entry-refuses p) arrival-refuses
 
   pub times-kept : (o : Scaled) (b : Bracket) → entryOf p ≡ pass (o, b) → (new : Bracket) → Names (searchOf (timeAt o) (o .t) (p .limit) b) new → (new .lo .time ≡ timeAt o (new .lo .x)) × (new .hi .time ≡ timeAt o (new .hi .x))
   times-kept = search.times-kept timeAt wantedTime arrivalAt (p .limit) (entryOf p) least starts-fair

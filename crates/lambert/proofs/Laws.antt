@@ -1,6 +1,6 @@
 -- The laws of a transfer's answers: those of any search (`crates/search/proofs/Answers.antt`), of the time along the arc and of the velocity that z
--- comes to. A refusal's number is one of ten (`refusal-numbered`); 9 and 10 come with a
--- bracket alone (`bracket-means`); a solved z and a named bracket lie in 0 to 36 (`solved-between`, `named-between`).
+-- comes to. A refusal's number is 9 or 10 where it names a bracket, and else one of eight (`refusal-numbered`); a solved z and a named bracket lie
+-- in 0 to 36 (`solved-between`, `named-between`).
 use mathlib.Core.Path.{_≡_}
 use mathlib.Core.Bool.{true}
 use Prim.Native.Nat.{ℕ, _≤_}
@@ -46,9 +46,9 @@ module _ (q : Transfer) where
   unfolding lambertOf
   counts = search.counts timeAt wantedTime velocityAt (q .limit) (entryOf q) least
 
-  pub refusal-numbered : {P : ℕ → Type 0} → Eight P → P 9 → P 10 → RefusalHas P (lambertOf q)
+  pub refusal-numbered : {P : ℕ → Type 0} (Q : ℕ → Type 0) → Eight P → Q 9 → Q 10 → RefusalHas P Q (lambertOf q)
   unfolding lambertOf
-  refusal-numbered e nine ten = search.refusal-numbered timeAt wantedTime velocityAt (q .limit) (entryOf q) (e .p6) nine ten (entry-refuses e q) (velocity-refuses (e .p6))
+  refusal-numbered Q e nine ten = search.refusal-numbered timeAt wantedTime velocityAt (q .limit) (entryOf q) Q (e .p6) nine ten (entry-refuses e q) (velocity-refuses (e .p6))
 
   pub times-kept : (o : Scaled) (b : Bracket) → entryOf q ≡ pass (o, b) → (new : Bracket) → Names (searchOf (timeAt o) (o .t) (q .limit) b) new → (new .lo .time ≡ timeAt o (new .lo .x)) × (new .hi .time ≡ timeAt o (new .hi .x))
   times-kept = search.times-kept timeAt wantedTime velocityAt (q .limit) (entryOf q) least starts-fair

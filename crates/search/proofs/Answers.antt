@@ -1,8 +1,8 @@
 -- The laws of a search's answers, for any unknown, time, wanted time and finding. A guess is counted, and before the first one the count is 0
--- (`refused-before`, `counts`). A refusal's number is one of the tests', of the finding's, or 6, 9 or 10 (`refusal-numbered`). From a fair
--- bracket, solved means near, finite and in the starting bracket, with what is found there (`solved-means`). A refusal that names a bracket,
--- 9 or 10, names one in the starting bracket; the times of its ends are finite, the lower one at most the wanted time and the upper one at
--- least (`bracket-means`); the times kept beside the ends are theirs (`times-kept`).
+-- (`refused-before`, `counts`). The number of a refusal is 9 or 10 where it names a bracket, and else one of the tests', of the finding's, or 6
+-- (`refusal-numbered`). From a fair bracket, solved means near, finite and in the starting bracket, with what is found there (`solved-means`).
+-- A bracket that is named lies in the starting one; the times of its ends are finite, the lower one at most the wanted time and the upper one
+-- at least (`bracket-means`); the times kept beside the ends are theirs (`times-kept`).
 use mathlib.Core.Path.{_≡_, refl, ap, subst}
 use mathlib.Core.Logic.{_⊎_, inl, inr}
 use mathlib.Core.Bool.{true, false}
@@ -43,11 +43,11 @@ guessesIn (solved x n found) = n
 guessesIn (refused k n) = n
 guessesIn (refusedWithBracket k n lo hi) = n
 
--- what an answer says of its number, if it is a refusal
-abbrev pub RefusalHas : {A : Type 0} → (ℕ → Type 0) → Answer A → Type 0
-RefusalHas P (solved x n found) = Unit
-RefusalHas P (refused k n) = P k
-RefusalHas P (refusedWithBracket k n lo hi) = P k
+-- what an answer says of its number, if it is a refusal: P where it names no bracket, and Q where it names one
+abbrev pub RefusalHas : {A : Type 0} → (P Q : ℕ → Type 0) → Answer A → Type 0
+RefusalHas P Q (solved x n found) = Unit
+RefusalHas P Q (refused k n) = P k
+RefusalHas P Q (refusedWithBracket k n lo hi) = Q k
 
 -- what it says, if it is solved
 abbrev IfSolved : {A : Type 0} → (Float → A → Type 0) → Answer A → Type 0
@@ -74,12 +74,12 @@ module _ {A : Type 0} (find : Float → Checked A) where
   end-count (end.spent b n) = refl
   end-count (end.lost n) = refl
 
-  module _ {P : ℕ → Type 0} where
-    found-numbered : (x : Float) (n : ℕ) (c : Checked A) → Refuses P c → RefusalHas P (withFound x n c)
+  module _ {P : ℕ → Type 0} (Q : ℕ → Type 0) where
+    found-numbered : (x : Float) (n : ℕ) (c : Checked A) → Refuses P c → RefusalHas P Q (withFound x n c)
     found-numbered x n (pass found) r = tt
     found-numbered x n (refuse k) r = refusal-has r refl
 
-    end-numbered : P 6 → P 9 → P 10 → ((x : Float) → Refuses P (find x)) → (e : end.Ending) → RefusalHas P (answerOf find e)
+    end-numbered : P 6 → Q 9 → Q 10 → ((x : Float) → Refuses P (find x)) → (e : end.Ending) → RefusalHas P Q (answerOf find e)
     end-numbered six nine ten r (end.solved x n) = found-numbered x n (find x) (r x)
     end-numbered six nine ten r (end.closed b n) = nine
     end-numbered six nine ten r (end.spent b n) = ten
@@ -141,8 +141,8 @@ module _ {S A : Type 0} (time : S → Float → Float) (wanted : S → Float) (f
       go (pass (o, b)) h = at-end o b h (searchOf (time o) (wanted o) limit b) refl
       go (refuse k) h = at-entry k h
 
-  pub refusal-numbered : {P : ℕ → Type 0} → P 6 → P 9 → P 10 → Refuses P e → ((o : S) (x : Float) → Refuses P (find o x)) → RefusalHas P answer
-  refusal-numbered {P} six nine ten r f = by-origin (RefusalHas P) (λ k h. refusal-has r h) (λ o b h n s. end-numbered (find o) six nine ten (f o) n)
+  pub refusal-numbered : {P : ℕ → Type 0} (Q : ℕ → Type 0) → P 6 → Q 9 → Q 10 → Refuses P e → ((o : S) (x : Float) → Refuses P (find o x)) → RefusalHas P Q answer
+  refusal-numbered {P} Q six nine ten r f = by-origin (RefusalHas P Q) (λ k h. refusal-has r h) (λ o b h n s. end-numbered (find o) Q six nine ten (f o) n)
 
   module _ (least : (o : S) (b : Bracket) → e ≡ pass (o, b) → 1 ≤ limit) where
     pub counts : (o : S) (b : Bracket) → e ≡ pass (o, b) → (1 ≤ guessesIn answer) × (guessesIn answer ≤ limit)

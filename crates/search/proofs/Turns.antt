@@ -6,9 +6,8 @@ use Prim.Native.Nat.{ℕ, zero, suc, _+_, _-_, _≤_, _<_}
 use native.Mathlib.Omega.{arith}
 use lib.Ieee.{Float}
 use Rattle.exact.specs.Numbers.{isFinite, isNear}
-use Rattle.search.specs.declared.Point.{Point}
 use Rattle.search.specs.declared.Bracket.{Bracket}
-use Rattle.search.specs.Said.{Try, guess, noGuess, Ending, solved, closed, spent, lost}
+use Rattle.search.specs.Said.{Try, guess, noGuess, solved, closed, spent, lost}
 use Rattle.search.specs.Search.{firstGuess, narrowedBy, nextGuess, hunt, searchOf}
 use Rattle.search.proofs.Hunt.{pointAt}
 

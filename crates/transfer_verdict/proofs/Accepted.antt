@@ -1,6 +1,6 @@
 -- What verdict 0 of a solved transfer means, and what gets it: demand 3 of RULES. The tests say it (compared's `Passes`); the one on the times says
 -- that their exact gap is at most 2^-36 + 2^-89, and a gap of at most 2^-36 passes it.
-use mathlib.Core.Path.{_≡_, refl, sym, ap, subst}
+use mathlib.Core.Path.{_≡_, sym, subst}
 use mathlib.Core.Bool.{true}
 use mathlib.Core.List.{List}
 use Prim.Native.Nat.{ℕ, _≤_}
@@ -20,15 +20,14 @@ use Rattle.arc.proofs.Departing.{departureAt, Departs, departs-at}
 use Rattle.arc_entry.specs.ArcEntry.{thirtySix, entryOf}
 use Rattle.arc_entry.proofs.Passed.{entered}
 use Rattle.arc_entry.proofs.Fair.{fair, in-start-between}
-use Rattle.card.specs.Fields as card
-use Rattle.card.specs.Fields.{transferOf, zOf}
+use Rattle.card.specs.Fields.{transferOf, zOf, positionFrom}
 use Rattle.compared.proofs.Words.{wordsAt, vectorWords, same-words}
 use Rattle.compared.proofs.Answered.{Passes, answered-is, answered-passes, residual-plus, x-finite, gap-small, near-enough}
 use Rattle.transfer_verdict.specs.TransferVerdict.{sameVelocity, atZ, transferCard}
 
 -- the words of the body that stand for the velocity
 abbrev pub velocityWords : List ℕ → List ℕ
-velocityWords body = wordsAt body card.departureAt
+velocityWords body = wordsAt body positionFrom
 
 abbrev pub residualOf : List ℕ → Scaled → Float
 residualOf body o = magnitude (timeAt o (zOf body) ⊖ o .t)
@@ -85,7 +84,7 @@ accepted-means body residual h =
     let d = departs-at o z v .0 (p .finding) in
     let between = in-start-between q o start e z (p .x-in) in
     let at-z : Departs o z (departureAt o z) × (velocityWords body ≡ vectorWords (departureAt o z)) =
-    subst (λ (a : Vector). Departs o z a × (velocityWords body ≡ vectorWords a)) (sym (d .velocity-is)) (d, same-words body card.departureAt v .0 (p .same-found)) in
+    subst (λ (a : Vector). Departs o z a × (velocityWords body ≡ vectorWords a)) (sym (d .velocity-is)) (d, same-words body positionFrom v .0 (p .same-found)) in
     record {
       q = q;
       asked = S .4;
@@ -134,5 +133,5 @@ good-enough body g =
       time-finite = g .time-finite;
       near = near-enough (timeAt o) (o .t) (velocityAt o) (sameVelocity body) (g .start) z f (g .time-finite) (g .gap-small);
       finding = departs-at o z (departureAt o z) .1 (g .departs);
-      same-found = same-words body card.departureAt (departureAt o z) .1 (g .velocity-bits);
+      same-found = same-words body positionFrom (departureAt o z) .1 (g .velocity-bits);
     })

@@ -1,7 +1,7 @@
 -- Every transfer that we solve passes: the body that a transfer's bytes and its answer make has the transfer in it, and the answer's numbers, so each
 -- test of the verdict finds what the search found.
-use mathlib.Core.Path.{_≡_, refl, sym, ap, _∙_, subst}
-use mathlib.Core.List.{List, [], append-nil}
+use mathlib.Core.Path.{_≡_, refl, ap, _∙_, subst}
+use mathlib.Core.List.{List}
 use Prim.Native.Nat.{ℕ, _+_, _*_}
 use lib.Dec.{T, ltb, ltb→lt}
 use lib.ListN.{length, getD, length-append}
@@ -19,12 +19,11 @@ use Rattle.arc.proofs.Departing.{departs-at, departure-fits}
 use Rattle.lambert.specs.Lambert.{lambertOf}
 use Rattle.lambert.proofs.Laws.{IsSolved, solved-means}
 use Rattle.card.specs.declared.Kind.the-variants as kind
-use Rattle.card.specs.Fields as card
-use Rattle.card.specs.Fields.{sizeOf, transferSize, answerAt, transferOf, zOf}
+use Rattle.card.specs.Fields.{sizeOf, transferSize, answerAt, transferOf, zOf, positionFrom}
 use Rattle.card.specs.Made.{numbersBytes, transferNumbers, transferBody}
-use Rattle.card.proofs.Numbers.{AllFit, length-numbers, word-at}
+use Rattle.card.proofs.Numbers.{AllFit, length-numbers, word-in}
 use Rattle.card.proofs.Given.{given-transfer}
-use Rattle.compared.proofs.Words.{wordsAt, vectorWords, same-words}
+use Rattle.compared.proofs.Words.{vectorWords, same-words}
 use Rattle.transfer_verdict.specs.TransferVerdict.{transferCard}
 use Rattle.transfer_verdict.proofs.Accepted.{velocityWords, residualOf, transfer-passes}
 
@@ -38,8 +37,7 @@ module _ (given : List ℕ) (sized : length given ≡ transferSize) (z : Float) 
     answer-at : (i : ℕ) → T (ltb i 4) → valueAt 8 (transferBody given z v) (answerAt + 8 * i) ≡ wordOf (getD (transferNumbers z v) i nan)
     answer-at i h =
         (rw sized at (valueAt-back 8 given (numbersBytes (transferNumbers z v)) (8 * i)))
-        ∙ ap (λ (l : List ℕ). valueAt 8 l (8 * i)) (sym (append-nil (numbersBytes (transferNumbers z v))))
-        ∙ word-at (transferNumbers z v) [] w i (ltb→lt i 4 h)
+        ∙ word-in (transferNumbers z v) w i (ltb→lt i 4 h)
 
     z-read : zOf (transferBody given z v) ≡ z
     z-read = ap numberOf (answer-at 0 tt) ∙ ofBits-toBits binary64 z (w .0)
@@ -47,8 +45,8 @@ module _ (given : List ℕ) (sized : length given ≡ transferSize) (z : Float) 
     velocity-read : velocityWords (transferBody given z v) ≡ vectorWords v
     velocity-read = rw (answer-at 1 tt, answer-at 2 tt, answer-at 3 tt)
 
-  pub solved-passes : (q : Transfer) (n : ℕ) → transferOf given ≡ pass q → lambertOf q ≡ solved z n v → (residual : Float) × (transferCard (transferBody given z v) ≡ pass residual)
-  solved-passes q n asked found =
+  pub made-passes : (q : Transfer) (n : ℕ) → transferOf given ≡ pass q → lambertOf q ≡ solved z n v → (residual : Float) × (transferCard (transferBody given z v) ≡ pass residual)
+  made-passes q n asked found =
       let s : IsSolved q z v = solved-means q z n v found in
       let o = s .o in
       let d = departs-at o z v .0 (s .finding) in
@@ -62,6 +60,6 @@ module _ (given : List ℕ) (sized : length given ≡ transferSize) (z : Float) 
           time-finite = rw same-z (s .finite);
           near = rw same-z (s .near);
           finding = rw same-z (s .finding);
-          same-found = same-words body card.departureAt v .1 (velocity-read w);
+          same-found = same-words body positionFrom v .1 (velocity-read w);
         }),
       )

@@ -1,11 +1,9 @@
 -- The numbers with which a solved transfer is rejected: 23, the transfer's own from before the first guess, 20, 21 and 22; never 9 or 10.
-use mathlib.Core.Bool.{cond}
 use mathlib.Core.List.{List}
 use Prim.Native.Nat.{ℕ}
 use lib.Dec.{eqb}
 use Rattle.rows.proofs.Laws.{Refuses, passes, refuses, cond-refuses, onward-refuses}
 use Rattle.search.specs.declared.Bracket.{Bracket}
-use Rattle.words.specs.Words.{valueAt}
 use Rattle.arc.specs.declared.Scaled.{Scaled}
 use Rattle.arc.proofs.Departing.{velocity-refuses}
 use Rattle.arc_entry.proofs.Refusals.{Eight, entry-refuses}

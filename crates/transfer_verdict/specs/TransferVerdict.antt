@@ -3,17 +3,18 @@ use Prim.Native.Nat.{ℕ}
 use mathlib.Core.Bool.{Bool}
 use mathlib.Core.List.{List}
 use lib.Ieee.{Float}
-use Rattle.rows.specs.Rows.{Checked, pass, must, onward}
+use Rattle.rows.specs.Rows.{Checked, onward}
 use Rattle.search.specs.declared.Bracket.{Bracket}
 use Rattle.vectors.specs.declared.Vector.{Vector}
 use Rattle.arc.specs.declared.Scaled.{Scaled}
 use Rattle.arc.specs.Arc.{timeAt, velocityAt}
 use Rattle.arc_entry.specs.ArcEntry.{entryOf}
-use Rattle.card.specs.Fields.{transferOf, zOf, departureAt}
+use Rattle.card.specs.Fields.{transferOf, zOf, positionFrom}
 use Rattle.compared.specs.Compared.{answeredBy, sameWords}
 
+-- the velocity stands where a solved card has its position
 abbrev pub sameVelocity : List ℕ → Vector → Bool
-sameVelocity body v = sameWords body departureAt v
+sameVelocity body v = sameWords body positionFrom v
 
 -- Verdicts 14 to 18: 20, 6, 21, then 6 for the velocity and 22
 unfoldable pub atZ : List ℕ → Scaled → Bracket → Checked Float

@@ -6,21 +6,16 @@ use mathlib.Core.List.{List}
 use Prim.Native.Nat.{ℕ, _≤_}
 use lib.Ieee.{Float, binary64}
 use lib.Ieee.Bits.{is-true}
-use lib.Ieee.Fits.{sub-fits}
-use Rattle.exact.specs.Numbers.{_⊖_, isFinite, magnitude, isNear, gap, inSteps, mostGap}
-use Rattle.exact.proofs.Basics.{passed}
-use Rattle.exact.proofs.Signs.{Plus, magnitude-plus}
-use Rattle.exact.proofs.Tolerance.{near-difference, gap-of-near, near-of-gap}
+use Rattle.exact.specs.Numbers.{_⊖_, isFinite, magnitude, gap, inSteps, mostGap}
+use Rattle.exact.proofs.Signs.{Plus}
 use Rattle.search.specs.declared.Bracket.{Bracket}
 use Rattle.search.specs.Search.{within}
 use Rattle.conic.specs.declared.Scaled.{Scaled}
 use Rattle.rows.specs.Rows.{Checked, pass, refuse}
 use Rattle.conic.specs.TimeAndRatio.{timeAt}
-use Rattle.conic.specs.Unfolding.{stateAt}
+use Rattle.conic.specs.Unfolding.{stateAt, arrivalAt}
 use Rattle.entry.specs.Entry.{entryOf}
 use Rattle.conic.proofs.Arrival.{Arrives}
-use Rattle.entry.proofs.Passed.{entered, times-are}
-use Rattle.entry.proofs.Fair.{in-start-finite}
 use Rattle.kepler.specs.Kepler.{keplerOf}
 use Rattle.card.specs.declared.Kind.{Kind}
 use Rattle.card.specs.declared.Kind.the-variants as kind
@@ -28,12 +23,18 @@ use Rattle.card.specs.Fields.{problemOf, spareOf, xOf, refusalOf, lastSpareOf}
 use Rattle.ruling.specs.Said.{solved, numberIn}
 use Rattle.compared.specs.Said.{asSolved, asRefused}
 use Rattle.compared.proofs.Theorems.{as-solved}
+use Rattle.compared.proofs.Answered as compared
 use Rattle.transfer_verdict.specs.TransferVerdict.{transferCard}
 use Rattle.transfer_verdict.proofs.Accepted as transfer
-use Rattle.verdict.specs.Verdict.{solvedCard, isRefusedWith, refusedCard, verdictOn}
+use Rattle.verdict.specs.Verdict.{sameState, solvedCard, isRefusedWith, refusedCard, verdictOn}
 use Rattle.verdict.proofs.StateWords.{stateWords, wordsOf}
-use Rattle.verdict.proofs.Tests.{solved-is, solved-passes, refused-tests}
+use Rattle.verdict.proofs.Tests.{shared, starts-fair, solved-is, solved-passes, refused-tests}
 use Rattle.verdict.proofs.Rejected.{zero-accepts}
+
+-- where a row of tests that gives a residual comes to the verdict 0, it gives one
+zero-solves : (k : Kind) (body : List ℕ) (c : Checked Float) → verdictOn k body ≡ asSolved c → numberIn (verdictOn k body) ≡ 0 → (residual : Float) × (verdictOn k body ≡ solved residual)
+zero-solves k body (pass residual) e z = (residual, e)
+zero-solves k body (refuse n) e z = absurd (zero-accepts k body z n e)
 
 -- ---- a solved card
 
@@ -58,17 +59,16 @@ accepted-means body residual h =
     let start = S .1 in
     let p = S .2 in
     let x = xOf body in
-    let e = entered (problemOf body) o start (p .entry) in
-    let n = times-are (problemOf body) o start e x (p .time-finite) in
+    let f = starts-fair body o start (p .entry) in
     record {
       spare-is = p .spare-is;
       o = o;
       start = start;
       entry = p .entry;
-      x-finite = is-true (isFinite x) (in-start-finite (problemOf body) o start e x (p .x-in));
+      x-finite = is-true (isFinite x) (compared.x-finite (timeAt o) (o .t) (arrivalAt o) (sameState body) start x f (p .x-in));
       x-in = p .x-in;
       time-finite = p .time-finite;
-      gap-small = gap-of-near (timeAt o x) (o .t) (n .0) (n .1) (passed (p .near));
+      gap-small = compared.gap-small (timeAt o) (o .t) (arrivalAt o) (sameState body) start x f (shared body o start p);
       arrival = p .arrival;
       state-bits = p .state-bits;
       residual-is = S .3;
@@ -76,11 +76,9 @@ accepted-means body residual h =
 
 pub verdict-zero-means : (body : List ℕ) → numberIn (verdictOn kind.Solved body) ≡ 0 → (residual : Float) × (verdictOn kind.Solved body ≡ solved residual) × Accepted body residual
 unfolding verdictOn
-verdict-zero-means body z = go (solvedCard body) refl
-  where
-    go : (c : Checked Float) → solvedCard body ≡ c → (residual : Float) × (verdictOn kind.Solved body ≡ solved residual) × Accepted body residual
-    go (pass residual) e = let h : verdictOn kind.Solved body ≡ solved residual = ap asSolved e in (residual, h, accepted-means body residual h)
-    go (refuse k) e = absurd (zero-accepts kind.Solved body z k (ap asSolved e))
+verdict-zero-means body z =
+    let s = zero-solves kind.Solved body (solvedCard body) refl z in
+    (s .0, s .1, accepted-means body (s .0) (s .1))
 
 -- a card with an exact gap of at most 2^-36, whose state is the one that x unfolds to, bit for bit
 pub record GoodEnough (body : List ℕ) : Type 0 where
@@ -98,13 +96,13 @@ pub good-enough : (body : List ℕ) (g : GoodEnough body) → verdictOn kind.Sol
 good-enough body g =
     let o = g .o in
     let x = xOf body in
-    let n = times-are (problemOf body) o (g .start) (entered (problemOf body) o (g .start) (g .entry)) x (g .time-finite) in
+    let f = starts-fair body o (g .start) (g .entry) in
     solved-passes body o (g .start) (record {
       spare-is = g .spare-is;
       entry = g .entry;
       x-in = g .x-in;
       time-finite = g .time-finite;
-      near = is-true (isNear (timeAt o x) (o .t)) (near-of-gap (timeAt o x) (o .t) (n .0) (n .1) (g .gap-small));
+      near = compared.near-enough (timeAt o) (o .t) (arrivalAt o) (sameState body) (g .start) x f (g .time-finite) (g .gap-small);
       arrival = g .arrival;
       state-bits = g .state-bits;
     })
@@ -117,11 +115,9 @@ transfer-accepted-means body residual h = transfer.accepted-means body residual 
 
 pub transfer-zero-means : (body : List ℕ) → numberIn (verdictOn kind.Transfer body) ≡ 0 → (residual : Float) × (verdictOn kind.Transfer body ≡ solved residual) × transfer.Accepted body residual
 unfolding verdictOn
-transfer-zero-means body z = go (transferCard body) refl
-  where
-    go : (c : Checked Float) → transferCard body ≡ c → (residual : Float) × (verdictOn kind.Transfer body ≡ solved residual) × transfer.Accepted body residual
-    go (pass residual) e = (residual, ap asSolved e, transfer.accepted-means body residual e)
-    go (refuse k) e = absurd (zero-accepts kind.Transfer body z k (ap asSolved e))
+transfer-zero-means body z =
+    let s = zero-solves kind.Transfer body (transferCard body) refl z in
+    (s .0, s .1, transfer-accepted-means body (s .0) (s .1))
 
 pub transfer-good-enough : (body : List ℕ) (g : transfer.GoodEnough body) → verdictOn kind.Transfer body ≡ solved (transfer.residualOf body (g .o))
 unfolding verdictOn
@@ -152,8 +148,7 @@ pub residual-plus : (k : Kind) (body : List ℕ) (r : Float) → verdictOn k bod
 unfolding verdictOn
 residual-plus kind.Solved body r h =
     let S = solved-is body r (as-solved (solvedCard body) (pass r) h) in
-    let time = timeAt (S .0) (xOf body) in
-    let t = S .0 .t in
-    subst Plus (sym (S .3)) (magnitude-plus (time ⊖ t) (sub-fits binary64 time t, near-difference time t (passed (S .2 .near))))
+    let o = S .0 in
+    subst Plus (sym (S .3)) (compared.residual-plus (timeAt o) (o .t) (arrivalAt o) (sameState body) (S .1) (xOf body) (shared body o (S .1) (S .2)))
 residual-plus kind.Refused body r h = absurd (never-solved body r h)
 residual-plus kind.Transfer body r h = transfer.accepted-plus body r (as-solved (transferCard body) (pass r) h)

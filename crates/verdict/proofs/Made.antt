@@ -2,7 +2,7 @@
 -- numbers, so each test of the verdict finds what Kepler found.
 use mathlib.Core.Path.{_≡_, refl, sym, ap, _∙_, subst}
 use mathlib.Core.Bool.{true}
-use mathlib.Core.List.{List, [], _++_, append-nil}
+use mathlib.Core.List.{List, _++_}
 use Prim.Native.Nat.{ℕ, _+_, _*_}
 use native.Mathlib.Omega.{arith}
 use lib.Dec.{T, ltb, eqb, ltb→lt, eqb-refl}
@@ -31,7 +31,7 @@ use Rattle.kepler.proofs.Laws.{refusal-numbered, IsSolved, solved-means}
 use Rattle.card.specs.declared.Kind.the-variants as kind
 use Rattle.card.specs.Fields.{problemSize, transferSize, transferOf, spareSize, answerAt, problemOf, spareOf, xOf, refusalOf, lastSpareOf}
 use Rattle.card.specs.Made.{numbersBytes, spare, solvedNumbers, solvedBody, transferBody, refusedBody, cardFor}
-use Rattle.card.proofs.Numbers.{AllFit, word-at}
+use Rattle.card.proofs.Numbers.{AllFit, word-in}
 use Rattle.card.proofs.Given.{given-problem, behind-given}
 use Rattle.ruling.specs.Said.{numberIn}
 use Rattle.compared.specs.Said.{asSolved, asRefused}
@@ -66,8 +66,7 @@ module _ (given : List ℕ) (sized : length given ≡ problemSize) where
     answer-at : (i : ℕ) → T (ltb i 7) → valueAt 8 (solvedBody given x state) (answerAt + 8 * i) ≡ wordOf (getD (solvedNumbers x state) i nan)
     answer-at i h =
         behind-spare (numbersBytes (solvedNumbers x state)) 8 (8 * i)
-        ∙ ap (λ (l : List ℕ). valueAt 8 l (8 * i)) (sym (append-nil (numbersBytes (solvedNumbers x state))))
-        ∙ word-at (solvedNumbers x state) [] w i (ltb→lt i 7 h)
+        ∙ word-in (solvedNumbers x state) w i (ltb→lt i 7 h)
 
     x-read : xOf (solvedBody given x state) ≡ x
     x-read = ap numberOf (answer-at 0 tt) ∙ ofBits-toBits binary64 x (w .0)
@@ -108,11 +107,11 @@ module _ (given : List ℕ) (sized : length given ≡ problemSize) where
     where
       go : (s : conic.Said) → keplerOf (problemOf given) ≡ s → numberIn (verdictOn (cardFor given s .kind) (cardFor given s .body)) ≡ 0
       go (answer.solved x n state) e = solved-made x state (solved-means (problemOf given) x n state e)
-      go (answer.refused k n) e = refused-made k (subst (RefusalHas Numbered) e (refusal-numbered (problemOf given))) (rw e (is-true (eqb k k) (eqb-refl k)))
-      go (answer.refusedWithBracket k n lo hi) e = refused-made k (subst (RefusalHas Numbered) e (refusal-numbered (problemOf given))) (rw e (is-true (eqb k k) (eqb-refl k)))
+      go (answer.refused k n) e = refused-made k (subst (RefusalHas Numbered Numbered) e (refusal-numbered (problemOf given))) (rw e (is-true (eqb k k) (eqb-refl k)))
+      go (answer.refusedWithBracket k n lo hi) e = refused-made k (subst (RefusalHas Numbered Numbered) e (refusal-numbered (problemOf given))) (rw e (is-true (eqb k k) (eqb-refl k)))
 
 -- ---- a solved transfer: each that we solve, made into a card
 
-pub transfer-passes : (given : List ℕ) → length given ≡ transferSize → (q : Transfer) (z : Float) (n : ℕ) (velocity : Vector) → transferOf given ≡ pass q → lambertOf q ≡ answer.solved z n velocity → numberIn (verdictOn kind.Transfer (transferBody given z velocity)) ≡ 0
+pub transfer-made-passes : (given : List ℕ) → length given ≡ transferSize → (q : Transfer) (z : Float) (n : ℕ) (velocity : Vector) → transferOf given ≡ pass q → lambertOf q ≡ answer.solved z n velocity → numberIn (verdictOn kind.Transfer (transferBody given z velocity)) ≡ 0
 unfolding verdictOn
-transfer-passes given sized q z n velocity asked found = ap (λ (c : Checked Float). numberIn (asSolved c)) (transfer.solved-passes given sized z velocity q n asked found .1)
+transfer-made-passes given sized q z n velocity asked found = ap (λ (c : Checked Float). numberIn (asSolved c)) (transfer.made-passes given sized z velocity q n asked found .1)

@@ -9,7 +9,7 @@ use Rattle.exact.specs.Numbers.{wordOf}
 use Rattle.exact.proofs.Basics.{both}
 use Rattle.words.specs.Words.{valueAt}
 use Rattle.conic.specs.declared.State.{State}
-use Rattle.card.specs.Fields.{positionAt, velocityAt}
+use Rattle.card.specs.Fields.{positionFrom, velocityFrom}
 use Rattle.compared.specs.Compared.{sameWords}
 use Rattle.compared.proofs.Words.{vector-words}
 use Rattle.verdict.specs.Verdict.{sameState}
@@ -17,12 +17,12 @@ use Rattle.verdict.specs.Verdict.{sameState}
 -- the six words of a body, in order, and those of a state
 abbrev pub stateWords : List ℕ → List ℕ
 stateWords body =
-    valueAt 8 body positionAt
-    ∷ valueAt 8 body (positionAt + 8)
-    ∷ valueAt 8 body (positionAt + 16)
-    ∷ valueAt 8 body velocityAt
-    ∷ valueAt 8 body (velocityAt + 8)
-    ∷ valueAt 8 body (velocityAt + 16)
+    valueAt 8 body positionFrom
+    ∷ valueAt 8 body (positionFrom + 8)
+    ∷ valueAt 8 body (positionFrom + 16)
+    ∷ valueAt 8 body velocityFrom
+    ∷ valueAt 8 body (velocityFrom + 8)
+    ∷ valueAt 8 body (velocityFrom + 16)
     ∷ []
 
 abbrev pub wordsOf : State → List ℕ
@@ -33,12 +33,12 @@ same-state body state = (there, back)
   where
     there : sameState body state ≡ true → stateWords body ≡ wordsOf state
     there h =
-        let t = both (sameWords body positionAt (state .r)) (sameWords body velocityAt (state .v)) .0 h in
-        let p = vector-words body positionAt (state .r) .0 (t .0) in
-        let q = vector-words body velocityAt (state .v) .0 (t .1) in
+        let t = both (sameWords body positionFrom (state .r)) (sameWords body velocityFrom (state .v)) .0 h in
+        let p = vector-words body positionFrom (state .r) .0 (t .0) in
+        let q = vector-words body velocityFrom (state .v) .0 (t .1) in
         cc
 
     back : stateWords body ≡ wordsOf state → sameState body state ≡ true
     back e =
-        both (sameWords body positionAt (state .r)) (sameWords body velocityAt (state .v)) .1
-        (vector-words body positionAt (state .r) .1 ((cc), (cc), (cc)), vector-words body velocityAt (state .v) .1 ((cc), (cc), (cc)))
+        both (sameWords body positionFrom (state .r)) (sameWords body velocityFrom (state .v)) .1
+        (vector-words body positionFrom (state .r) .1 ((cc), (cc), (cc)), vector-words body velocityFrom (state .v) .1 ((cc), (cc), (cc)))

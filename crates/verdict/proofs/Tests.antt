@@ -13,6 +13,7 @@ use Rattle.exact.specs.Numbers.{_⊖_, isFinite, magnitude, isNear}
 use Rattle.exact.proofs.Basics.{both}
 use Rattle.search.specs.declared.Bracket.{Bracket}
 use Rattle.search.specs.Search.{within}
+use Rattle.search.proofs.Answers.{Fair}
 use Rattle.conic.specs.declared.State.{State}
 use Rattle.conic.specs.declared.Scaled.{Scaled}
 use Rattle.rows.specs.Rows.{pass, must, onward}
@@ -49,7 +50,7 @@ abbrev pub residualOf : List ℕ → Scaled → Float
 residualOf body o = magnitude (timeAt o (xOf body) ⊖ o .t)
 
 -- the tests that solved transfers share, at this card
-abbrev Shared : List ℕ → Scaled → Bracket → State → Type 0
+abbrev pub Shared : List ℕ → Scaled → Bracket → State → Type 0
 Shared body o start state = compared.Passes (timeAt o) (o .t) (arrivalAt o) (sameState body) start (xOf body) state
 
 at-x-is : (body : List ℕ) (o : Scaled) (start : Bracket) (state : State) → spareOf body ≡ 0 → entryOf (problemOf body) ≡ pass (o, start) → Shared body o start state → Passes body o start
@@ -72,15 +73,19 @@ solved-is body r h =
     (o, start, at-x-is body o start (A .0) (eqb-true (spareOf body) 0 (first .0)) (E .1) (A .1), A .2)
 
 -- and back
-shared : (body : List ℕ) (o : Scaled) (start : Bracket) → Passes body o start → Shared body o start (stateAt o (xOf body))
+pub shared : (body : List ℕ) (o : Scaled) (start : Bracket) → Passes body o start → Shared body o start (stateAt o (xOf body))
 shared body o start p =
     let x = xOf body in
     record { x-in = p .x-in; time-finite = p .time-finite; near = p .near; finding = arrives o x (stateAt o x) .1 (p .arrival); same-found = same-state body (stateAt o x) .1 (p .state-bits) }
 
+-- the bracket of a problem that passed is fair
+pub starts-fair : (body : List ℕ) (o : Scaled) (start : Bracket) → entryOf (problemOf body) ≡ pass (o, start) → Fair (timeAt o) (o .t) start
+starts-fair body o start e = fair (problemOf body) o start (entered (problemOf body) o start e)
+
 pub solved-passes : (body : List ℕ) (o : Scaled) (start : Bracket) → Passes body o start → verdictOn kind.Solved body ≡ solved (residualOf body o)
 unfolding verdictOn solvedCard atX must onward
 solved-passes body o start p =
-    let f = fair (problemOf body) o start (entered (problemOf body) o start (p .entry)) in
+    let f = starts-fair body o start (p .entry) in
     let passes = answered-passes (timeAt o) (o .t) (arrivalAt o) (sameState body) start (xOf body) f (shared body o start p) in
     rw (eq-eqb (spareOf body) 0 (p .spare-is), p .entry) (ap asSolved passes)
 

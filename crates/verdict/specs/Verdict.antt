@@ -16,7 +16,7 @@ use Rattle.entry.specs.Entry.{entryOf}
 use Rattle.kepler.specs.Kepler.{keplerOf}
 use Rattle.card.specs.declared.Kind.{Kind}
 use Rattle.card.specs.declared.Kind.the-variants as kind
-use Rattle.card.specs.Fields.{problemOf, spareOf, xOf, positionAt, velocityAt, refusalOf, lastSpareOf}
+use Rattle.card.specs.Fields.{problemOf, spareOf, xOf, positionFrom, velocityFrom, refusalOf, lastSpareOf}
 use Rattle.ruling.specs.Said.{Said}
 use Rattle.compared.specs.Said.{asSolved, asRefused}
 use Rattle.compared.specs.Compared.{answeredBy, sameWords}
@@ -24,7 +24,7 @@ use Rattle.transfer_verdict.specs.TransferVerdict.{transferCard}
 
 -- the bits of a state against those of the body
 abbrev pub sameState : List ℕ → State → Bool
-sameState body state = sameWords body positionAt (state .r) && sameWords body velocityAt (state .v)
+sameState body state = sameWords body positionFrom (state .r) && sameWords body velocityFrom (state .v)
 
 -- Verdicts 3 to 8: 20, 6, 21, then 11 and 6, as at every arrival, and 22
 unfoldable pub atX : List ℕ → Scaled → Bracket → Checked Float

@@ -1,12 +1,9 @@
 -- `arc_entry::factor` meets its contract: each return is one way through the definition's row of tests.
-use mathlib.Core.Path.{_≡_, refl, sym, ap, _∙_}
-use mathlib.Core.Bool.{Bool, true, false, not}
+use mathlib.Core.Path.{_≡_, refl}
 use borrow.Author.Needs.{needs}
-use lib.Ieee.{lt}
-use Rattle.exact.specs.Numbers.{_⊖_, one, magnitude}
 use Rattle.rows.specs.Rows.{pass, must, onward}
 use Rattle.units.proofs.Rooted.{root-given, root-refused}
-use Rattle.arc_entry.specs.ArcEntry.{nearest, signed, factorOf}
+use Rattle.arc_entry.specs.ArcEntry.{signed, factorOf}
 use Rattle.arc_entry.proofs.factor.Statement.{statement}
 use Rattle.arc_entry.proofs.factor.Tie as tie
 

@@ -1,9 +1,9 @@
 -- `compared::same` meets its contract: what the two functions `word` ensure, three times.
-use mathlib.Core.Path.{_≡_, refl}
+use mathlib.Core.Path.{refl}
 use Prim.Native.Nat.{_≤_}
 use native.Mathlib.Omega.{arith}
 use borrow.Author.Needs.{needs}
-use Rattle.card.specs.Fields.{velocityAt}
+use Rattle.card.specs.Fields.{velocityFrom}
 use Rattle.compared.specs.declared.Place.{Place}
 use Rattle.compared.specs.declared.Place.the-variants as place
 use Rattle.compared.specs.Compared.{placeAt}
@@ -11,7 +11,7 @@ use Rattle.compared.proofs.same.Statement.{statement}
 use Rattle.compared.proofs.same.Tie as tie
 
 -- no place stands behind the second
-place-most : (p : Place) → placeAt p ≤ velocityAt
+place-most : (p : Place) → placeAt p ≤ velocityFrom
 place-most place.First = omega arith
 place-most place.Second = omega arith
 

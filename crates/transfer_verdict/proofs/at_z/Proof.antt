@@ -1,5 +1,5 @@
 -- `transfer_verdict::at_z` meets its contract: z is rejected, or the velocity is looked at.
-use mathlib.Core.Path.{_≡_, refl, ap, _∙_}
+use mathlib.Core.Path.{_≡_, refl, _∙_}
 use borrow.Author.Needs.{needs}
 use Rattle.rows.specs.Rows.{onward}
 use Rattle.arc.specs.Arc.{velocityAt}

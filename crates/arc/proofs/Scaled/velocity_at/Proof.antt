@@ -2,7 +2,6 @@
 use mathlib.Core.Path.{_≡_, refl, sym, ap, _∙_}
 use borrow.Author.Needs.{needs}
 use borrow.Author.Tests.{not-true, not-false}
-use Rattle.vectors.specs.Vectors.{allFinite}
 use Rattle.rows.specs.Rows.{must}
 use Rattle.arc.specs.Arc.{shapeAt, departureIn, velocityAt}
 use Rattle.arc.proofs.Scaled.velocity_at.Statement.{statement}
