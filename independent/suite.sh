@@ -4,7 +4,8 @@
 
 # A suite: the program's name here and in the independent program; the form of its inputs: the bytes of
 # one, or, where these have many sizes and each is a file of its own, the ending of the files' names; the
-# fewest inputs that the gate takes; and the fewest answers of each kind among them.
+# fewest inputs that the gate takes; and the fewest of each kind among them: kinds of answer, and for
+# transfers kinds of input too. What a list must try it can't leave out so.
 suites=(
     "roots 8 20000 refused 1: 1000, refused 13: 1000, root: 20000"
     "predict 68 20000 refused 1: 20, refused 2: 20, refused 3: 20, refused 5: 20, refused 6: 20, \
@@ -12,19 +13,28 @@ refused 7: 20, refused 8: 20, refused 9: 20, refused 10: 20, refused 11: 20, sol
     "turn 64 10000 refused 1: 20, refused 2: 20, refused 4: 20, refused 5: 20, refused 6: 20, \
 refused 7: 20, refused 11: 20, refused 12: 20, solved: 5000"
     "transfer 72 20000 refused 1: 20, refused 2: 20, refused 3: 20, refused 5: 20, refused 6: 20, refused 9: 20, \
-refused 10: 20, refused 23: 20, refused 50: 20, refused 51: 20, refused 52: 20, solved: 10000"
+refused 10: 20, refused 23: 20, refused 50: 20, refused 51: 20, refused 52: 20, solved: 10000, short: 6000, long: 6000, \
+limit 1: 800, limit 2: 800, limit 20: 2000, limit 100: 6000, not finite 1: 40, not finite 2: 40, not finite 3: 40, \
+not finite 4: 40, not finite 5: 40, not finite 6: 40, not finite 7: 40, not finite 8: 40, angle 0 to 90: 2500, \
+angle 90 to 180: 2500, angle 180 to 270: 2500, angle 270 to 360: 2500, below the bound near 0: 20, \
+at the bound near 0: 20, above the bound near 0: 20, below the bound near 180 short: 20, \
+at the bound near 180 short: 20, above the bound near 180 short: 20, below the bound near 180 long: 20, \
+at the bound near 180 long: 20, above the bound near 180 long: 20, below the bound near 360: 20, \
+at the bound near 360: 20, above the bound near 360: 20, below T(0): 200, at T(0): 200, above T(0): 200, \
+below T(36): 200, at T(36): 150, above T(36): 200, ratio below 1e-9: 100, ratio 1e-3 to 0.1: 1000, \
+ratio 0.1 to 10: 5000, ratio 10 to 1e3: 1000, ratio above 1e9: 500"
     "check_deck .deck 3000 solved 0: 10000, solved 1: 20, solved 2: 20, solved 3: 20, solved 5: 20, \
 solved 6: 20, solved 7: 20, solved 8: 20, solved 11: 20, solved 20: 20, solved 21: 20, solved 22: 20, \
 solved 23: 20, refused 0: 5000, refused 23: 20, refused 24: 20, deck 30: 20, deck 31: 20, deck 32: 20, \
 deck 33: 20, deck 34: 20, deck 35: 20, deck 36: 20, deck 37: 20, deck 38: 20, transfer 0: 500, transfer 1: 20, \
-transfer 2: 20, transfer 3: 20, transfer 5: 20, transfer 6: 20, transfer 20: 20, transfer 21: 20, transfer 22: 20, \
-transfer 23: 20, transfer 50: 20, transfer 51: 20, transfer 52: 20, with transfer: 400"
+transfer 2: 20, transfer 3: 20, transfer 5: 20, transfer 6: 20, transfer 20: 160, transfer 21: 260, transfer 22: 140, \
+transfer 23: 150, transfer 50: 20, transfer 51: 20, transfer 52: 20, with transfer: 400, refused with transfer: 150"
     "write_deck .problems 500 written: 500, solved: 3000, refused 1: 100, refused 2: 100, refused 3: 100, refused 5: 50, \
 refused 6: 50, refused 7: 50, refused 8: 50, refused 9: 32, refused 10: 50, refused 11: 50, deck 40: 10, \
 deck 46: 100, cards 0: 4, cards 1: 100, cards 2: 4, cards 255: 3, cards 256: 6, cards between: 100"
     "copy_deck .deck 600 same: 500, cleared: 60, deck 30: 8, deck 31: 2, deck 32: 2, deck 33: 2, deck 34: 2, \
 deck 35: 2, deck 36: 2, deck 37: 2, deck 38: 2, cards 0: 2, cards 1: 2, cards 2: 2, cards 255: 1, \
-cards 256: 2, cards between: 400, with transfer: 60"
+cards 256: 2, cards between: 400, with transfer: 60, refused with transfer: 10"
 )
 
 independent=independent/target/release/independent
@@ -93,7 +103,7 @@ answer_theirs() { # NAME FORM INPUTS THEIRS
 
 # Runs inputs through the proved program and through the independent one and compares the answers. The
 # decks that write_deck has written are checked too. Says what is wrong; status 1 for a difference, 2
-# where a program failed. How often each kind of answer was reached is added to the file KINDS.
+# where a program failed. How often each kind was reached is added to the file KINDS.
 compare() { # NAME FORM INPUTS KINDS
     local name=$1 form=$2 inputs=$3 kinds=$4 ours=$3.ours theirs=$3.theirs same=same_lines
     ! in_files "$form" || same=same_files
@@ -207,8 +217,13 @@ kinds_of() { # NAME FORM INPUTS ANSWERS
     if in_files "$2"; then
         "$independent" "$1" kinds "$3" "$4"
     else
-        awk '{ print $1 == "refused" ? $1 " " $2 : $1 }' "$4"
+        awk '{ print $1 == "refused" ? $1 " " $2 : $1 }' "$4" && traits_of "$1" "$3"
     fi
+}
+
+# What the inputs are like, where the gate counts that.
+traits_of() { # NAME INPUTS
+    [ "$1" != transfer ] || "$independent" transfer traits <"$2"
 }
 
 # Has check_deck list the decks that write_deck wrote for whole problems, 256 at most: each has a card for

@@ -7,7 +7,7 @@ use crate::deck::{self, ENTRIES, ENTRY, MOST_CARDS};
 use crate::kepler::PROBLEM;
 
 /// Of a listing: the kind and the verdict of each card, or the deck's refusal; and whether the deck
-/// has a transfer. A listing calls a transfer solved; here it is told apart.
+/// has a transfer, and is refused with it. A listing calls a transfer solved; here it is told apart.
 pub fn listed(deck: &[u8], listing: &[u8]) -> Vec<String> {
     let listing = String::from_utf8_lossy(listing);
     let mut entries = entries(deck);
@@ -20,7 +20,7 @@ pub fn listed(deck: &[u8], listing: &[u8]) -> Vec<String> {
         _ => None,
     };
     let mut kinds: Vec<String> = listing.lines().filter_map(&mut kind).collect();
-    kinds.extend(with_transfer(deck));
+    kinds.extend(with_transfer(deck, listing.starts_with("deck ")));
     kinds
 }
 
@@ -46,10 +46,14 @@ pub fn written(problems: &[u8], answer: &[u8]) -> Vec<String> {
 }
 
 /// Of what `copy_deck` writes: `same` where it is the same bytes, `cleared` where it is the same but
-/// for the spares, and how many cards there are, or the refusal; and whether the deck has a transfer.
+/// for the spares, and how many cards there are, or the refusal; and whether the deck has a transfer, and
+/// is refused with it.
 pub fn copied(deck: &[u8], answer: &[u8]) -> Vec<String> {
     if let Some(line) = refusal(answer) {
-        return [line].into_iter().chain(with_transfer(deck)).collect();
+        return [line]
+            .into_iter()
+            .chain(with_transfer(deck, true))
+            .collect();
     }
     assert!(
         answer == cleared(deck),
@@ -59,7 +63,7 @@ pub fn copied(deck: &[u8], answer: &[u8]) -> Vec<String> {
     let count = how_many(u32_at(deck, 4) as usize);
     [kind.to_string(), count]
         .into_iter()
-        .chain(with_transfer(deck))
+        .chain(with_transfer(deck, false))
         .collect()
 }
 
@@ -84,11 +88,16 @@ fn cleared(deck: &[u8]) -> Vec<u8> {
     bytes
 }
 
-/// The kind of a deck, damaged or not, that has a transfer among its entries.
-fn with_transfer(deck: &[u8]) -> Option<String> {
-    entries(deck)
-        .any(is_transfer)
-        .then(|| "with transfer".to_string())
+/// The kinds of a deck, damaged or not, that has a transfer among its entries.
+fn with_transfer(deck: &[u8], refused: bool) -> Vec<String> {
+    if !entries(deck).any(is_transfer) {
+        return Vec::new();
+    }
+    let mut kinds = vec!["with transfer".to_string()];
+    if refused {
+        kinds.push("refused with transfer".to_string());
+    }
+    kinds
 }
 
 fn is_transfer(entry: &[u8]) -> bool {

@@ -30,6 +30,7 @@ mod suite;
 mod theta;
 mod theta_inputs;
 mod ties;
+mod traits;
 mod transfer;
 mod transfer_cards;
 mod transfer_decks;
@@ -55,7 +56,8 @@ a file, PLACE.deck, and so is each of write_deck, PLACE.problems; NAME is one of
        independent NAME answers INPUTS INTO       for each input of a folder a file PLACE.answer
        independent NAME random SEED COUNT [FROM] INTO
        independent NAME kinds INPUTS ANSWERS      a line for each kind of each answer
-Whether transfers arrive; RECORDS, LINES and OUTCOMES are files:
+What transfers are like, and whether they arrive; RECORDS, LINES and OUTCOMES are files:
+       independent transfer traits                reads records, writes a line for each trait of each
        independent transfer arcs                  transfers, as records
        independent transfer departures RECORDS LINES
                                                   Kepler's problems for those that LINES calls solved
@@ -127,6 +129,7 @@ fn main() -> ExitCode {
         ["turn", ref command @ ..] => TURN.run(&mut out, command),
         ["transfer", ref command @ ..] => TRANSFER
             .run(&mut out, command)
+            .or_else(|| traits::run(&mut out, command))
             .or_else(|| arrivals::run(&mut out, command)),
         ["check_deck", ref command @ ..] => CHECK_DECK.run(&mut out, command),
         ["write_deck", ref command @ ..] => WRITE_DECK.run(&mut out, command),

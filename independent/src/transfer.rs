@@ -80,15 +80,9 @@ pub fn answer(input: &Input) -> Answer<3> {
     }
 }
 
-/// The tests before the first guess, in their order, and the starting bracket. The way comes first,
-/// in a record and in a card alike.
+/// The tests before the first guess, in their order, and the starting bracket.
 pub fn start(input: &Input) -> Result<Started, u32> {
-    refuse(23, ![SHORT, LONG].contains(&input.way))?;
-    let problem = Problem::read(&input.words)?;
-    refuse(3, !(1..=100).contains(&input.limit))?;
-    let places = Positions::of(problem.mu, problem.r, problem.v)?;
-    let t = problem.span / places.f4;
-    refuse(6, !t.is_finite())?;
+    let (places, t) = placed(input)?;
     let transfer = places.by_way(input.way)?;
     let lo = transfer.end(0.0)?;
     refuse(51, t < lo.time)?;
@@ -96,6 +90,18 @@ pub fn start(input: &Input) -> Result<Started, u32> {
     refuse(52, t > hi.time)?;
     let search = Search { t, lo, hi };
     Ok(Started { transfer, search })
+}
+
+/// The tests before that of the angle, in their order: the positions and t. The way comes first, in a
+/// record and in a card alike.
+pub fn placed(input: &Input) -> Result<(Positions, f64), u32> {
+    refuse(23, ![SHORT, LONG].contains(&input.way))?;
+    let problem = Problem::read(&input.words)?;
+    refuse(3, !(1..=100).contains(&input.limit))?;
+    let places = Positions::of(problem.mu, problem.r, problem.v)?;
+    let t = problem.span / places.f4;
+    refuse(6, !t.is_finite())?;
+    Ok((places, t))
 }
 
 impl Positions {

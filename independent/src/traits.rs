@@ -1,0 +1,126 @@
+//! The traits of a transfer that the gate counts beside its answer, a line each. So a list without the
+//! transfers that are to be tried does not pass. What is said of angle, radii and times counts only
+//! where the tests before them are passed.
+
+use crate::transfer::{placed, Input, Positions, FAR, LONG, OPEN, RECORD, SHORT};
+use std::cmp::Ordering;
+use std::io::{self, Read, Write};
+
+/// The limits that are counted.
+const LIMITS: [u32; 4] = [1, 2, 20, 100];
+
+/// The ranges of the second radius in parts of the first one that are counted.
+const RATIOS: [(&str, f64, f64); 5] = [
+    ("ratio below 1e-9", 0.0, 1e-9),
+    ("ratio 1e-3 to 0.1", 1e-3, 0.1),
+    ("ratio 0.1 to 10", 0.1, 10.0),
+    ("ratio 10 to 1e3", 10.0, 1e3),
+    ("ratio above 1e9", 1e9, f64::INFINITY),
+];
+
+/// How many last places beside a line a number may be.
+const PLACES: u64 = 2;
+
+/// Does one command. None where there is no such command.
+pub fn run(out: &mut impl Write, command: &[&str]) -> Option<io::Result<()>> {
+    match *command {
+        ["traits"] => Some(write_traits(out)),
+        _ => None,
+    }
+}
+
+/// Reads records from standard input, as many as come, and writes the traits of each.
+fn write_traits(out: &mut impl Write) -> io::Result<()> {
+    let mut records = Vec::new();
+    io::stdin().lock().read_to_end(&mut records)?;
+    records
+        .chunks_exact(RECORD)
+        .flat_map(|record| traits(&Input::read(record)))
+        .try_for_each(|one| writeln!(out, "{one}"))
+}
+
+fn traits(input: &Input) -> Vec<String> {
+    let mut list: Vec<String> = [way(input), limit(input), not_finite(input)]
+        .into_iter()
+        .flatten()
+        .collect();
+    if let Ok((places, t)) = placed(input) {
+        list.push(angle(&places, input.way));
+        list.extend(ratio(&places));
+        list.extend(bound(&places, input.way));
+        list.extend(times(places, input.way, t));
+    }
+    list
+}
+
+fn way(input: &Input) -> Option<String> {
+    match input.way {
+        SHORT => Some("short".to_string()),
+        LONG => Some("long".to_string()),
+        _ => None,
+    }
+}
+
+fn limit(input: &Input) -> Option<String> {
+    let limit = input.limit;
+    LIMITS.contains(&limit).then(|| format!("limit {limit}"))
+}
+
+/// The place, from 1 on, of the number that is not finite, where it is the only one.
+fn not_finite(input: &Input) -> Option<String> {
+    let finite = input.words.map(|word| f64::from_bits(word).is_finite());
+    let place = finite.iter().position(|finite| !finite)?;
+    let alone = finite[place + 1..].iter().all(|finite| *finite);
+    alone.then(|| format!("not finite {}", place + 1))
+}
+
+/// The quarter of a turn in which the angle is. The long way's is 360 degrees less the short one's.
+fn angle(places: &Positions, way: u32) -> String {
+    let quarter = match (way == LONG, places.c < 0.0) {
+        (false, false) => "0 to 90",
+        (false, true) => "90 to 180",
+        (true, true) => "180 to 270",
+        (true, false) => "270 to 360",
+    };
+    format!("angle {quarter}")
+}
+
+fn ratio(places: &Positions) -> Option<String> {
+    let (name, ..) = RATIOS
+        .into_iter()
+        .find(|(_, from, to)| (*from..*to).contains(&places.rho))?;
+    Some(name.to_string())
+}
+
+/// Whether 1 - |c| is on the bound of 50 or beside it, and near which angle.
+fn bound(places: &Positions, way: u32) -> Option<String> {
+    let side = side(1.0 - OPEN, places.c.abs())?;
+    let near = match (way == LONG, places.c < 0.0) {
+        (false, false) => "0",
+        (false, true) => "180 short",
+        (true, true) => "180 long",
+        (true, false) => "360",
+    };
+    Some(format!("{side} the bound near {near}"))
+}
+
+/// Whether t is on T at an end of the bracket or beside it.
+fn times(places: Positions, way: u32, t: f64) -> Vec<String> {
+    let Ok(transfer) = places.by_way(way) else {
+        return Vec::new();
+    };
+    [0.0, FAR]
+        .into_iter()
+        .filter_map(|z| Some(format!("{} T({z})", side(t, transfer.time(z))?)))
+        .collect()
+}
+
+/// On which side of a line a number is that is on it or a few last places beside it.
+fn side(x: f64, line: f64) -> Option<&'static str> {
+    let near = x.to_bits().abs_diff(line.to_bits()) <= PLACES;
+    match x.partial_cmp(&line).filter(|_| near && line.is_finite())? {
+        Ordering::Less => Some("below"),
+        Ordering::Equal => Some("at"),
+        Ordering::Greater => Some("above"),
+    }
+}
