@@ -5,7 +5,7 @@
 # A suite: the program's name here and in the independent program; the form of its inputs: the bytes of
 # one, or, where these have many sizes and each is a file of its own, the ending of the files' names; the
 # fewest inputs that the gate takes; and the fewest of each kind among them: kinds of answer, and for
-# transfers kinds of input too. What a list must try it can't leave out so.
+# transfers kinds of input too, so that a list can't leave out what it must try.
 suites=(
     "roots 8 20000 refused 1: 1000, refused 13: 1000, root: 20000"
     "predict 68 20000 refused 1: 20, refused 2: 20, refused 3: 20, refused 5: 20, refused 6: 20, \
