@@ -36,24 +36,29 @@ def given(command: str, count: int, texts: list[str], what: str = "") -> None:
     """Sees to it that so many words are given, or '-'. `what` says which, where not all are numbers."""
     if texts != ["-"] and len(texts) != count:
         wanted = what or f"{count} numbers"
-        raise Stop(f"{command} takes {wanted}, or '-', and {len(texts)} were given; './tailfiddle help' shows which")
+        there = streams.given(len(texts))
+        raise Stop(f"{command} takes {wanted}, or '-', and {there}; './tailfiddle help' shows which")
 
 
 # ---- numbers
 
 
 def answer_record(command: str, name: str, record: bytes, more: More = None) -> int:
-    """The program's lines, with what is added for people."""
+    """The program's lines, with what is added for people, in one write: who reads the first line alone may
+    then go. Where something fails, what was found before is printed."""
     program = built.ready(name)
     running = kit.Running(program, [record], quiet=True)
     output = b"".join(streams.blocks(running.output))
     ended, _ = running.end()
     *lines, cut = output.decode("ascii", "replace").split("\n")
-    show(command, [row for line in lines for row in explained(command, line)])
-    if cut or not ended:
-        raise kit.failed(program)
-    if more:
-        show(command, [row for line in lines for row in more(record, line)])
+    rows = [row for line in lines for row in explained(command, line)]
+    try:
+        if cut or not ended:
+            raise kit.failed(program)
+        if more:
+            rows += [row for line in lines for row in more(record, line)]
+    finally:
+        show(command, rows)
     return 1 if others(output) else 0
 
 

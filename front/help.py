@@ -52,10 +52,11 @@ output for OUT. On standard error it says how many cards are solved and refused,
 Where a line is wrong, or there are more than 256 problems, it says so, and nothing is written.
 
 check prints the program's listing to the letter, and only when it is whole. A line for each card:
-'card', its place, 'solved' or 'refused', and the verdict, 0 where it is accepted; then the totals;
-then 'mean' and 'worst' of the solved cards' |T - t|, as words in hex, or 'none'. Of a deck that is
-refused, one line: 'deck' and the reason's number. Then, on standard error, it says what each number
-but 0 in the listing means, a line each; where every card is accepted, nothing.
+'card', its place, 'solved' or 'refused', and the verdict, 0 where it is accepted; a solved transfer
+is listed as 'solved' too. Then the totals; then 'mean' and 'worst' of the solved cards' |T - t|, as
+words in hex, or 'none'. Of a deck that is refused, one line: 'deck' and the reason's number. Then,
+on standard error, it says what each number but 0 in the listing means, a line each; where every
+card is accepted, nothing.
 
 show prints for each card its place, kind and verdict, the problem and the answer, with units, in as
 few digits as read back as the same number; then the totals. The verdicts are check's. Of a deck

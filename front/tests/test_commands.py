@@ -156,6 +156,18 @@ class Ran(unittest.TestCase):
                 self.assertEqual(commands.main(command.split()), 2)
                 self.assertRegex(self.written, rb"^2 tailfiddle: .*\n$")
 
+    def test_one_word_was_given(self):
+        for command in ("write a", "predict 1", "turn 1", "transfer 1"):
+            with self.subTest(command):
+                self.written = b""
+                self.assertEqual(commands.main(command.split()), 2)
+                self.assertIn(b", and 1 was given; ", self.written)
+        for command, count in (("check", 0), ("write a b c", 3), ("why 1 2", 2), ("turn 1 2", 2)):
+            with self.subTest(command):
+                self.written = b""
+                self.assertEqual(commands.main(command.split()), 2)
+                self.assertIn(f", and {count} were given; ".encode(), self.written)
+
     def test_a_fault_is_no_refusal(self):
         with mock.patch("front.why.run", side_effect=RuntimeError("odd")):
             self.assertEqual(commands.main(["why"]), 2)

@@ -87,6 +87,18 @@ class Solved(Stand):
         problem = struct.pack("<8dI", 398600.4418, 7000, 0, 0, 1, 2, 4, 1800, 100)
         self.assertEqual(self.given("predict"), problem)
 
+    def test_all_rows_are_one_write(self):
+        pieces = []
+        keep = self.keep
+
+        def counted(descriptor, data):
+            pieces.append(descriptor)
+            keep(descriptor, data)
+
+        with mock.patch.object(streams, "write", counted):
+            self.check(ASKED, 0, SHOWN + SHOWN_ARRIVAL)
+        self.assertEqual(pieces.count(1), 1)
+
     def test_the_long_way(self):
         self.check([*ASKED[:-1], "long"], 0, SHOWN + SHOWN_ARRIVAL)
         self.assertEqual(self.given("transfer"), RECORD[:-4] + b"\1\0\0\0")
@@ -189,6 +201,7 @@ class Wrong(Stand):
         nine = "1 1 0 0 0 1 0 2 100"
         for texts, said in (
             ("", "transfer takes 10 words, MU, R1 .* and short or long, or '-', and 0 were given; .* shows which"),
+            ("1", "transfer takes 10 words, .*, and 1 was given; .*"),
             (nine, "transfer takes 10 words, .*, and 9 were given; .*"),
             (f"{nine} short long", "transfer takes 10 words, .*, and 11 were given; .*"),
             ("- -", "transfer takes 10 words, .*, and 2 were given; .*"),
