@@ -36,7 +36,7 @@ def given(command: str, count: int, texts: list[str], what: str = "") -> None:
     """Sees to it that so many words are given, or '-'. `what` says which, where not all are numbers."""
     if texts != ["-"] and len(texts) != count:
         wanted = what or f"{count} numbers"
-        there = streams.given(len(texts))
+        there = streams.were_given(len(texts))
         raise Stop(f"{command} takes {wanted}, or '-', and {there}; './tailfiddle help' shows which")
 
 
@@ -57,8 +57,10 @@ def answer_record(command: str, name: str, record: bytes, more: More = None) -> 
             raise kit.failed(program)
         if more:
             rows += [row for line in lines for row in more(record, line)]
-    finally:
+    except Stop:
         show(command, rows)
+        raise
+    show(command, rows)
     return 1 if others(output) else 0
 
 

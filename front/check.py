@@ -16,7 +16,7 @@ PROGRAM = "check_deck"
 def run(texts: list[str]) -> int:
     """One file, or '-'."""
     if len(texts) != 1:
-        raise Stop(f"check takes one FILE, or '-', and {streams.given(len(texts))}; './tailfiddle help' tells more")
+        raise Stop(f"check takes one FILE, or '-', and {streams.were_given(len(texts))}; './tailfiddle help' tells more")
     streams.catch_signals("check")
     _, text, said = checked("check", texts[0])
     streams.show_bytes(text, "check: the listing could not be written")

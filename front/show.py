@@ -51,7 +51,7 @@ def run(texts: list[str]) -> int:
     """One file, or '-'; and --problems, if the problems alone are wanted."""
     files = [text for text in texts if text != PROBLEMS]
     if len(files) != 1:
-        raise Stop(f"show takes one DECK, or '-', and {streams.given(len(files))}; './tailfiddle help' tells more")
+        raise Stop(f"show takes one DECK, or '-', and {streams.were_given(len(files))}; './tailfiddle help' tells more")
     streams.catch_signals("show")
     streams.need_output("show")
     deck, _, said = check.checked("show", files[0])

@@ -49,7 +49,7 @@ def counted(count: int, noun: str) -> str:
     return f"{count} {noun}" + ("" if count == 1 else "s")
 
 
-def given(count: int) -> str:
+def were_given(count: int) -> str:
     """How many words were given, in words: '1 was given', '2 were given'."""
     return f"{count} {'was' if count == 1 else 'were'} given"
 

@@ -9,7 +9,7 @@ from front.streams import Stop
 def run(texts: list[str]) -> int:
     """One number, or none for a list of them."""
     if len(texts) > 1:
-        raise Stop(f"why takes one NUMBER, and {streams.given(len(texts))}; './tailfiddle help' tells more")
+        raise Stop(f"why takes one NUMBER, and {streams.were_given(len(texts))}; './tailfiddle help' tells more")
     wanted = texts[0] if texts else ""
     if texts and not (wanted.isascii() and wanted.isdigit()):
         raise Stop(f"why: '{wanted}' is not a number; './tailfiddle why' lists those that are used")

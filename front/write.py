@@ -18,7 +18,7 @@ PROGRAM = "write_deck"
 def run(texts: list[str]) -> int:
     """PROBLEMS and OUT, each a file or '-'."""
     if len(texts) != 2:
-        raise Stop(f"write takes PROBLEMS and OUT, and {streams.given(len(texts))}; './tailfiddle help' tells more")
+        raise Stop(f"write takes PROBLEMS and OUT, and {streams.were_given(len(texts))}; './tailfiddle help' tells more")
     name, out = texts
     streams.catch_signals("write")
     see_to_room(name, out)

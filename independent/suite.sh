@@ -119,7 +119,7 @@ compare() { # NAME FORM INPUTS KINDS
     "$same" "$name" "$form" "$inputs" "$ours" "$theirs" || return 1
     if [ "$name" = write_deck ]; then accepted "$inputs" "$ours" || return; fi
     if ! kinds_of "$name" "$form" "$inputs" "$ours" >"$ours.kinds"; then
-        echo "$name: an answer is of no kind that there is"
+        echo "$name: an input or an answer is of no kind that there is"
         return 2
     fi
     sort "$ours.kinds" | uniq -c >>"$kinds"
@@ -254,8 +254,9 @@ all_accepted() { # COUNT LISTING
 # The test by physics: transfers are solved, Kepler is set off with each velocity that was found, and its
 # positions are held to those that the transfers were to reach. A RUN is a command, in words, that reads
 # records and prints a line for each, as './tailfiddle run transfer'. SCRATCH is a folder, made anew. Says
-# what came of it; status 1 where an arrival is too far off, goes by the other way or there are too few, or
-# where the lines are not such as a program prints; 2 where a program failed.
+# what came of it; status 1 where an arrival is too far off, goes by the other way, is refused with a number
+# that it should not be, or there are too few, or where the lines are not such as a program prints; 2 where a
+# program failed.
 arrivals() { # RUN_TRANSFER RUN_PREDICT SCRATCH
     local transfer predict folder=$3 status=0
     read -ra transfer <<<"$1"

@@ -1,6 +1,6 @@
 //! The traits of a transfer that the gate counts beside its answer, a line each. So a list without the
-//! transfers that are to be tried does not pass. What is said of angle, radii and times counts only
-//! where the tests before them are passed.
+//! transfers that are to be tried does not pass. Nothing counts where the way is none, and angle, radii
+//! and times only where the tests before them are passed.
 
 use crate::transfer::{placed, Input, Positions, FAR, LONG, OPEN, RECORD, SHORT};
 use std::cmp::Ordering;
@@ -40,10 +40,12 @@ fn write_traits(out: &mut impl Write) -> io::Result<()> {
 }
 
 fn traits(input: &Input) -> Vec<String> {
-    let mut list: Vec<String> = [way(input), limit(input), not_finite(input)]
-        .into_iter()
-        .flatten()
-        .collect();
+    let Some(way) = way(input) else {
+        return Vec::new();
+    };
+    let mut list = vec![way];
+    list.extend(limit(input));
+    list.extend(not_finite(input));
     if let Ok((places, t)) = placed(input) {
         list.push(angle(&places, input.way));
         list.extend(ratio(&places));
@@ -92,7 +94,8 @@ fn ratio(places: &Positions) -> Option<String> {
     Some(name.to_string())
 }
 
-/// Whether 1 - |c| is on the bound of 50 or beside it, and near which angle.
+/// Whether 1 - |c| is on the bound of 50 or beside it, and near which angle. It is below where |c| is
+/// above, and last places count in |c|.
 fn bound(places: &Positions, way: u32) -> Option<String> {
     let side = side(1.0 - OPEN, places.c.abs())?;
     let near = match (way == LONG, places.c < 0.0) {
