@@ -2,13 +2,13 @@
 -- every transfer with its way.
 use mathlib.Core.Path.{_≡_, refl, sym, ap, _∙_}
 use mathlib.Core.Bool.{true}
-use mathlib.Core.List.{List, [], _∷_, _++_, append-nil}
+use mathlib.Core.List.{List, [], _++_, append-nil}
 use Prim.Native.Nat.{ℕ, _+_, _*_, _^_, _<_}
 use native.Mathlib.Omega.{arith}
 use borrow.Author.Tests.{leb-true}
 use lib.Dec.{T, leb, ltb, ltb→lt}
 use lib.ListN.{length, getD, length-append}
-use lib.Ieee.{Float, nan}
+use lib.Ieee.{nan}
 use Rattle.exact.specs.Numbers.{numberOf}
 use Rattle.spelled.specs.Spelled.{bytesOf}
 use Rattle.words.specs.Words.{valueAt}
@@ -21,7 +21,7 @@ use Rattle.arc.specs.declared.Way.{Way}
 use Rattle.arc.specs.declared.Way.the-variants as way
 use Rattle.arc.specs.declared.Transfer.{Transfer}
 use Rattle.card.specs.Fields.{problemSize, transferSize, problemOf, wayOf, transferBy, transferOf}
-use Rattle.card.specs.Made.{numbersBytes, problemBytes, wayNumber, asProblem, transferBytes}
+use Rattle.card.specs.Made.{numbersBytes, problemNumbers, problemBytes, wayNumber, asProblem, transferBytes}
 use Rattle.card.proofs.Numbers.{AllFit, length-numbers, number-at}
 
 -- ---- what stands behind changes nothing
@@ -45,18 +45,15 @@ module _ (given : List ℕ) (sized : length given ≡ problemSize) where
 
 -- ---- every problem can be written as bytes
 
-abbrev numbersIn : Problem → List Float
-numbersIn p = p .mu ∷ p .r .x ∷ p .r .y ∷ p .r .z ∷ p .v .x ∷ p .v .y ∷ p .v .z ∷ p .dt ∷ []
-
 module _ (p : Problem) (f : ProblemFits p) where
-  given-fits : AllFit (numbersIn p)
+  given-fits : AllFit (problemNumbers p)
   given-fits = (f .mu-fits, (f .r-fits .0, (f .r-fits .1, (f .r-fits .2, (f .v-fits .0, (f .v-fits .1, (f .v-fits .2, (f .dt-fits, tt))))))))
 
-  given-number : (i : ℕ) → T (ltb i 8) → numberOf (valueAt 8 (problemBytes p) (8 * i)) ≡ getD (numbersIn p) i nan
-  given-number i h = number-at (numbersIn p) (bytesOf 4 (p .limit)) given-fits i (ltb→lt i 8 h)
+  given-number : (i : ℕ) → T (ltb i 8) → numberOf (valueAt 8 (problemBytes p) (8 * i)) ≡ getD (problemNumbers p) i nan
+  given-number i h = number-at (problemNumbers p) (bytesOf 4 (p .limit)) given-fits i (ltb→lt i 8 h)
 
   given-limit : valueAt 4 (problemBytes p) 64 ≡ p .limit
-  given-limit = rw length-numbers at (valueAt-last 4 (p .limit) (numbersBytes (numbersIn p)) (f .limit-fits))
+  given-limit = rw length-numbers at (valueAt-last 4 (p .limit) (numbersBytes (problemNumbers p)) (f .limit-fits))
 
   pub given-as-bytes : (length (problemBytes p) ≡ problemSize) × (problemOf (problemBytes p) ≡ p)
   unfolding problemOf

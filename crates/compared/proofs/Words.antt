@@ -30,7 +30,7 @@ wordsAt body at = valueAt 8 body at ∷ valueAt 8 body (at + 8) ∷ valueAt 8 bo
 abbrev pub vectorWords : Vector → List ℕ
 vectorWords a = wordOf (a .x) ∷ wordOf (a .y) ∷ wordOf (a .z) ∷ []
 
-pub vector-words : (body : List ℕ) (at : ℕ) (a : Vector)
+vector-words : (body : List ℕ) (at : ℕ) (a : Vector)
     → T (sameWords body at a) ↔ ((valueAt 8 body at ≡ wordOf (a .x)) × (valueAt 8 body (at + 8) ≡ wordOf (a .y)) × (valueAt 8 body (at + 16) ≡ wordOf (a .z)))
 vector-words body at a = three (valueAt 8 body at) (valueAt 8 body (at + 8)) (valueAt 8 body (at + 16)) (wordOf (a .x)) (wordOf (a .y)) (wordOf (a .z))
 
