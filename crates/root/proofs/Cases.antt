@@ -1,7 +1,7 @@
 -- The definition of the root by its cases: not finite, below zero, zero, and above zero, where the number has a shape.
 use mathlib.Core.Path.{_≡_, subst}
 use mathlib.Core.Bool.{true, false}
-use Prim.Native.Nat.{_+_, _*_, _/_, _^_, _<_}
+use Prim.Native.Nat.{ℕ, min, _+_, _*_, _/_, _^_, _<_}
 use native.Mathlib.Omega.{arith}
 use lib.Ieee.{Float, binary64, lt, eq, ofBits, toBits}
 use lib.Ieee.Bits.{ofBits-toBits}
@@ -14,6 +14,8 @@ use Rattle.root.specs.Said.{root, refused}
 use Rattle.root.specs.Form.{InForm}
 use Rattle.root.specs.Whole.{wholeRoot}
 use Rattle.root.specs.Root.{nearestRoot, rootOf}
+use Rattle.root.specs.Paper as paper
+use Rattle.root.specs.Paper.{wholeOf, afterTurns, sheetOf}
 use Rattle.root.proofs.Whole.{wholeRoot-is}
 use Rattle.root.proofs.Form.{has-form}
 use Rattle.root.proofs.Shape.{Shape, written, is-nearestRoot}
@@ -53,3 +55,18 @@ shape x h p =
     let s = wholeRoot 54 (f .0 * 2 ^ 54) in
     let a = written x (f .0) (f .1) s form (wholeRoot-is 54 (f .0 * 2 ^ 54) (omega (arith, form .most))) in
     subst (Shape x) (is-nearestRoot x (ofBits binary64 ((f .1 + 1) * 2 ^ 52 + (s + 1) / 2)) (h .0) a) a
+
+-- ---- the sheet, case by case
+
+module _ (x : Float) (n : ℕ) where
+  pub shows-sheet : {r : Float} → rootOf x ≡ root r → eq x nought ≡ false → sheetOf x n ≡ paper.sheet (afterTurns (wholeOf (steps binary64 x)) (min n 54))
+  unfolding sheetOf
+  shows-sheet e z = rw (e, z)
+
+  pub shows-zero : {r : Float} → rootOf x ≡ root r → eq x nought ≡ true → sheetOf x n ≡ paper.zero-itself
+  unfolding sheetOf
+  shows-zero e z = rw (e, z)
+
+  pub shows-refused : {k : ℕ} → rootOf x ≡ refused k → sheetOf x n ≡ paper.refused k
+  unfolding sheetOf
+  shows-refused e = rw e

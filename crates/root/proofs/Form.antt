@@ -3,16 +3,18 @@
 use mathlib.Core.Path.{_≡_, sym, ap, _∙_, subst}
 use mathlib.Core.Logic.{inl, inr}
 use Prim.Native.Nat.{ℕ, suc, _+_, _-_, _*_, _/_, _%_, _^_, _≤_, _<_}
-use native.Mathlib.Nat.{eq-zero-or-pos, ne-of-gt, add-comm, mul-one, mod-lt, div-add-mod', le-trans, le-of-eq, lt-of-lt-of-le, lt-of-le-of-lt, lt-of-not-le, not-le-of-lt, mul-assoc, mul-le-mul-right, mul-lt-mul-of-pos-right, le-mul-of-pos-right, mul-le-mul-left, suc-add}
+use native.Mathlib.Nat.{eq-zero-or-pos, ne-of-gt, add-comm, mul-one, mod-lt, div-add-mod', le-trans, le-of-eq, lt-of-lt-of-le, lt-of-le-of-lt, lt-of-not-le, not-le-of-lt, le-antisymm, le-of-mul-le-mul-right, mul-div-cancel, mul-pos, zero-mul, mul-comm, mul-assoc, mul-le-mul-right, mul-lt-mul-of-pos-right, le-mul-of-pos-right, mul-le-mul-left, suc-add}
 use native.Mathlib.Omega.{arith}
 use lib.Dec.{lit≤}
-use lib.Ieee.{binary64, ofBits}
+use lib.Ieee.{binary64, ofBits, size}
+use lib.Ieee.Digits.{size-lt, size-reaches}
 use Rattle.exact.specs.Numbers.{steps}
 use Rattle.exact.proofs.Steps.{steps-of-value}
 use Rattle.exact.proofs.Words.{subnormal-word, normal-word}
 use lib.Count.{leadingZeros, leading-top}
-use lib.Pow.{pow-add, pow-pos, pow-mono}
+use lib.Pow.{pow-add, pow-pos, pow-mono, shl-lt}
 use Rattle.root.specs.Form.{InForm}
+use Rattle.root.specs.Paper.{halfOf, wholeOf}
 
 -- m moved up by `up` has 53 digits, and `up` is 11 less than m's leading zeros in a word
 pub record MovedUp (m up : ℕ) : Type 0 where
@@ -85,3 +87,44 @@ has-form w p l =
       | inl z ↦ rw (low-steps w z) (some-form w 0 p (omega arith) (omega arith))
       | inr q ↦ rw (high-steps w l (ne-of-gt q)) (some-form (w % 2 ^ 52 + 2 ^ 52) (w / 2 ^ 52 - 1) (omega arith) (omega arith) (omega arith))
     ]
+
+-- ---- and one alone: h and v are those of the rules
+
+-- powers of two are ordered as their exponents
+below-power : (i j : ℕ) → 2 ^ i < 2 ^ j → i < j
+below-power i j h = lt-of-not-le (λ (k : j ≤ i). not-le-of-lt h (pow-mono k))
+
+-- without the 54 digits that both sides have
+without-zeros : (u v h a b : ℕ) → u * 2 ^ (a + b) ≡ v * 2 ^ b * 2 ^ (2 * h) → u * 2 ^ a ≡ v * 2 ^ (2 * h)
+without-zeros u v h a b e =
+    let left : u * 2 ^ a * 2 ^ b ≡ u * 2 ^ (a + b) = mul-assoc u (2 ^ a) (2 ^ b) ∙ ap (λ (n : ℕ). u * n) (sym (pow-add 2 a b)) in
+    let right : v * 2 ^ b * 2 ^ (2 * h) ≡ v * 2 ^ (2 * h) * 2 ^ b = simp (mul-assoc, mul-comm) in
+    le-antisymm (le-of-mul-le-mul-right (le-of-eq (left ∙ e ∙ right)) (pow-pos b)) (le-of-mul-le-mul-right (le-of-eq (sym (left ∙ e ∙ right))) (pow-pos b))
+
+-- where v has 53 or 54 digits, the exponents are as far apart as the digits
+halved : (u v h a : ℕ) → 2 ^ 52 ≤ v → v < 2 ^ 54 → u * 2 ^ a ≡ v * 2 ^ (2 * h) → (2 * h + 52 < size u + a) × (size u + a ≤ 2 * h + 54)
+halved u v h a lo hi e =
+    let low : 2 ^ (52 + 2 * h) < 2 ^ (size u + a) = lt-of-le-of-lt (le-trans (le-of-eq (pow-add 2 52 (2 * h))) (le-trans (mul-le-mul-right (2 ^ (2 * h)) lo) (le-of-eq (sym e)))) (shl-lt (size u) a (size-lt u)) in
+    let some : 0 < size u = lt-of-not-le (λ (z : size u ≤ 0). not-le-of-lt (mul-pos (lt-of-lt-of-le (pow-pos 52) lo) (pow-pos (2 * h))) (le-trans (le-of-eq (sym e)) (none (size u) z (size-lt u)))) in
+    let reach : 2 ^ (size u - 1) ≤ u = size-reaches u (size u - 1) (omega (arith, some)) in
+    let high : 2 ^ (size u - 1 + a) < 2 ^ (54 + 2 * h) =
+    lt-of-le-of-lt (le-trans (le-of-eq (pow-add 2 (size u - 1) a)) (le-trans (mul-le-mul-right (2 ^ a) reach) (le-of-eq e))) (shl-lt 54 (2 * h) hi) in
+    (omega (arith, below-power (52 + 2 * h) (size u + a) low), omega (arith, some, below-power (size u - 1 + a) (54 + 2 * h) high))
+  where
+    -- without a digit u is 0
+    none : (k : ℕ) → k ≤ 0 → u < 2 ^ k → u * 2 ^ a ≤ 0
+    none k z l =
+        let e : k ≡ 0 = omega arith in
+        let f : u ≡ 0 = omega (arith, rw e at l) in
+        le-of-eq (ap (λ (n : ℕ). n * 2 ^ a) f ∙ zero-mul (2 ^ a))
+
+pub half-is : (u v h : ℕ) → InForm u v h → h ≡ halfOf u
+unfolding halfOf
+half-is u v h f =
+    let b = halved u v h 1020 (f .least) (omega (arith, f .most)) (without-zeros u v h 1020 54 (f .same)) in
+    omega (arith, b .0, b .1)
+
+pub whole-is : (u v h : ℕ) → InForm u v h → v ≡ wholeOf u
+unfolding wholeOf
+whole-is u v h f =
+    sym (ap (λ (n : ℕ). n / 2 ^ (2 * halfOf u)) (without-zeros u v h 1020 54 (f .same) ∙ ap (λ (n : ℕ). v * 2 ^ (2 * n)) (half-is u v h f)) ∙ mul-div-cancel v (pow-pos (2 * halfOf u)))

@@ -4,4 +4,6 @@ pub mod Shape
 pub mod Cases
 pub mod Nearest
 pub mod Theorems
+pub mod Paper
+pub mod Sheets
 pub mod Fixed

@@ -3,19 +3,21 @@
 -- the same statement, on every input (`contract-is-property`). And `said` is one to one (`said-once`), so that the contract has one answer.
 use mathlib.Core.Path.{_≡_, refl, sym, ap, _∙_, subst}
 use mathlib.Core.Logic.{_↔_}
-use mathlib.Core.Bool.{Bool, true, false}
+use mathlib.Core.Bool.{Bool, true, false, cond}
 use Prim.Native.Nat.{ℕ, _*_, _<_}
 use native.Mathlib.Nat.{lt-trans, lt-irrefl, add-comm}
 use native.Mathlib.Omega.{arith}
-use lib.Dec.{T}
+use lib.Dec.{T, eqb}
 use lib.Ieee.{Float, nan, inf, fin, binary64, fits, lt, eq, ofBits}
 use lib.Ieee.Bits.{is-true, is-false}
 use Rattle.coincidence.specs.Coincidence.{OneToOne}
+use Rattle.coincidence.proofs.Laws.{undone}
 use Rattle.exact.specs.Numbers.{nought, isFinite, isMinus, steps}
 use Rattle.exact.proofs.Basics.{passed, failed}
 use Rattle.exact.proofs.Steps.{same-number}
 use Rattle.exact.proofs.Order.{plus-lt, above-alone, equal-alone, lt-of-neither}
 use Rattle.exact.proofs.Zero.{nought-number, positive-is}
+use Rattle.root.specs.declared.Answer.{Answer}
 use Rattle.root.specs.declared.Answer.the-variants.{Root, Refused}
 use Rattle.root.specs.declared.Reason.{Reason}
 use Rattle.root.specs.declared.Reason.the-variants.{NotFinite, BelowZero}
@@ -89,16 +91,22 @@ one-root x s t h a b = go (isFinite x) (lt x nought) (eq x nought) refl refl ref
 pub contract-is-property : (x : Float) → T (fits binary64 x) → (s : Said) → (s ≡ rootOf x) ↔ IsRoot x s
 contract-is-property x h s = ((λ e. subst (IsRoot x) (sym e) (definition-holds x h)), λ a. one-root x s (rootOf x) h a (definition-holds x h))
 
--- ---- no two answers say the same
+-- ---- no two answers say the same: what they say can be undone
 
-reason-once : (v w : Reason) → refused (reasonNumber v) ≡ refused (reasonNumber w) → v ≡ w
-reason-once NotFinite NotFinite e = refl
-reason-once NotFinite BelowZero e = let z : _≡_ {A = ℕ} 1 13 = cc in absurd (omega arith)
-reason-once BelowZero NotFinite e = let z : _≡_ {A = ℕ} 13 1 = cc in absurd (omega arith)
-reason-once BelowZero BelowZero e = refl
+abbrev pub reasonFrom : ℕ → Reason
+reasonFrom k = cond (eqb k 1) NotFinite BelowZero
+
+pub reason-is : (why : Reason) → reasonFrom (reasonNumber why) ≡ why
+reason-is NotFinite = refl
+reason-is BelowZero = refl
+
+abbrev unsaid : Said → Answer
+unsaid (root x) = Root x
+unsaid (refused k) = Refused (reasonFrom k)
+
+unsaid-is : (a : Answer) → unsaid (said a) ≡ a
+unsaid-is (Root x) = refl
+unsaid-is (Refused why) = ap Refused (reason-is why)
 
 pub said-once : OneToOne said
-said-once (Root x) (Root y) e = cc
-said-once (Root x) (Refused w) e = cc
-said-once (Refused v) (Root y) e = cc
-said-once (Refused v) (Refused w) e = ap Refused (reason-once v w e)
+said-once = undone said unsaid unsaid-is

@@ -1,19 +1,34 @@
-// The root on whole numbers: from the word of a number above zero to the word of its root.
+// The root by hand: from the word of a number above zero to the word of its root, a binary digit a
+// turn, as on paper. docs/RULES.md, The root on paper; docs/ROOT.md works an example.
 //
-// In steps of 2^-1074 the number is m * 2^c. Its root in steps is the root of that times 2^1074,
-// which is brought to the form v * 2^54 * 2^(2h). The whole root of v * 2^54 has 54 digits, one more
-// than a binary64 number keeps. That digit alone decides the rounding: no root lies midway, and the
-// digits are never all ones, so nothing is carried beyond them.
+// Write the number in pairs of binary digits. A turn brings the next pair down behind the remainder,
+// and makes the trial: the digits so far with 01 behind them. If the trial can be taken off what
+// stands there, it is taken off, and the next digit is 1; if not, the digit is 0. That is all: with
+// d for the digits so far, (2d + 1)^2 is 4d^2 + (4d + 1), and the trial is what a digit 1 adds.
+//
+// The root of 173, in binary 10 10 11 01:
+//
+//     turn   pair   stands there   trial   digit   remainder
+//        1     10             10      01       1           1
+//        2     10            110     101       1           1
+//        3     11            111    1101       0         111
+//        4     01          11101   11001       1         100
+//
+// The digits are 1101, which is 13, the remainder is 4, and 13 * 13 + 4 is 173.
+use crate::Sheet;
 ghost use mathlib.Core.Path.{_≡_};
-ghost use Prim.Native.Nat.{_+_, _*_, _^_, _≤_, _<_};
+ghost use Prim.Native.Nat.{ℕ, min, _+_, _-_, _*_, _^_, _≤_, _<_};
 ghost use lib.Ieee.{ofBits, binary64};
 ghost use Rattle.exact.specs.Numbers.{steps};
 ghost use Rattle.root.specs.Form.{InForm};
-ghost use Rattle.root.specs.Whole.{IsWholeRoot};
+ghost use Rattle.root.specs.Paper.{wholeOf, digitFor, afterTurns, OnPaper, wordFrom};
 ghost use Rattle.root.specs.Root.{nearestRoot};
 
-// The weight of the exponent's field in a word.
+// The weight of the exponent's field in a word, and of the next pair among the pairs to come.
 const FIELD: u64 = 0x10_0000_0000_0000;
+
+// The pairs of the radicand: as many as the root has digits, one more than are kept.
+const PAIRS: u64 = 54;
 
 // The word of the root of the number whose word is w.
 pub(crate) fn root_word(w: u64) -> u64
@@ -21,9 +36,29 @@ pub(crate) fn root_word(w: u64) -> u64
     ensures { λ r. ⌜ (r < 0x7ff0_0000_0000_0000) × (ofBits binary64 r ≡ nearestRoot (ofBits binary64 w)) ⌝ }
 {
     let form = form_of(w);
-    (form.h + 1) * FIELD + (whole_root(form.v) + 1) / 2
+    let last = worked(form.v, 0);
+    rounded(last.digits, form.h)
 }
 
+// The sheet of that number after so many turns; after more than 54 the last one.
+pub(crate) fn sheet_of(w: u64, turns: u64) -> Sheet
+    requires { ⌜ (0 < w) × (w < 0x7ff0_0000_0000_0000) ⌝ }
+    ensures { λ r. ⌜ r ≡ afterTurns (wholeOf (steps binary64 (ofBits binary64 w))) (min turns 54) ⌝ }
+{
+    worked(form_of(w).v, left_after(turns))
+}
+
+// How many pairs are still to come after so many turns.
+fn left_after(turns: u64) -> u64
+    ensures { λ r. ⌜ r ≡ 54 - turns ⌝ }
+{
+    if turns < PAIRS { PAIRS - turns } else { 0 }
+}
+
+// ---- Before the turns: the number as an even power of two and a whole number
+
+// The number is v * 2^54 * 2^(2h), counted in steps and moved up by 1074 digits: an even power of
+// two has a root, so what is left is the root of v * 2^54.
 struct Form {
     v: u64,
     h: u64,
@@ -59,28 +94,58 @@ fn moved_up(m: u64, c: u64) -> Form
     }
 }
 
-// The whole part of the root of v * 2^54, a digit a turn, as on paper: two more digits of the
-// radicand are brought down beside the remainder, and the next digit of the root is 1 where twice
-// the root so far, with a 1 behind it, can be taken off.
-fn whole_root(v: u64) -> u64
-    requires { ⌜ v < 2 ^ 54 ⌝ }
-    ensures { λ r. ⌜ IsWholeRoot (v * 2 ^ 54) r ⌝ }
-    ensures { λ r. ⌜ r < 2 ^ 54 ⌝ }
+// ---- The turns
+
+// The sheet of the root of v * 2^54 when `left` pairs are still to come: a turn for each pair before.
+fn worked(v: u64, left: u64) -> Sheet
+    requires { ⌜ (v < 2 ^ 54) × (left ≤ 54) ⌝ }
+    ensures { λ r. ⌜ (r .left ≡ left) × OnPaper v r ⌝ }
 {
-    let mut below = v;
-    let mut root = 0;
-    let mut rest = 0;
-    let mut left = 54u64;
-    while 0 < left {
-        left -= 1;
-        rest = rest * 4 + below / FIELD;
-        below = below % FIELD * 4;
-        let taken = root * 4 + 1;
-        root = root * 2;
-        if taken <= rest {
-            rest -= taken;
-            root += 1;
-        }
+    let mut sheet = Sheet {
+        digits: 0,
+        remainder: 0,
+        pairs: v,
+        left: PAIRS,
+    };
+    while left < sheet.left {
+        sheet = turn(sheet);
     }
-    root
+    sheet
+}
+
+// One turn: the next pair is brought down, one more digit of the root is settled, and what it leaves
+// is the remainder.
+fn turn(sheet: Sheet) -> Sheet
+    requires { ⌜ (0 < sheet .left) × ((v : ℕ) × OnPaper v sheet) ⌝ }
+    ensures { λ r. ⌜ r .left + 1 ≡ sheet .left ⌝ }
+    ensures { λ r. ⌜ ((v : ℕ) → OnPaper v sheet → OnPaper v r) ⌝ }
+{
+    let pair = sheet.pairs / FIELD;
+    let standing = sheet.remainder * 4 + pair;
+    let trial = sheet.digits * 4 + 1;
+    let digit = settled(trial, standing);
+    Sheet {
+        digits: sheet.digits * 2 + digit,
+        remainder: standing - trial * digit,
+        pairs: sheet.pairs % FIELD * 4,
+        left: sheet.left - 1,
+    }
+}
+
+// The digit is 1 where the trial can be taken off what stands there.
+fn settled(trial: u64, standing: u64) -> u64
+    ensures { λ r. ⌜ r ≡ digitFor trial standing ⌝ }
+{
+    if trial <= standing { 1 } else { 0 }
+}
+
+// ---- After the turns: the last digit rounds
+
+// The word of the root: of its 54 digits a binary64 number keeps 53. No root lies midway, and the
+// digits are never all ones, so the last one alone decides, and nothing is carried beyond the first.
+fn rounded(digits: u64, h: u64) -> u64
+    requires { ⌜ (digits < 2 ^ 54) × (h ≤ 1532) ⌝ }
+    ensures { λ r. ⌜ r ≡ wordFrom h digits ⌝ }
+{
+    (h + 1) * FIELD + (digits + 1) / 2
 }

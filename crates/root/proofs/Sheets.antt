@@ -1,0 +1,100 @@
+-- The theorems on the sheets of a number. h and v are what the rules say of them (`in-rules-form`), and the sentence holds on each sheet (`holds-on-each`).
+-- The root is what the last sheet comes to, on every input (`answers-from-last`). And `shown` is one to one (`shown-once`), so that the contract has one answer.
+use mathlib.Core.Path.{_≡_, refl, sym, ap, _∙_, subst}
+use mathlib.Core.Bool.{Bool, true, false}
+use Prim.Native.Nat.{ℕ, min, _*_, _^_, _≤_, _<_}
+use native.Mathlib.Omega.{arith}
+use lib.Dec.{T}
+use lib.Ieee.{Float, binary64, fits, lt, eq, ofBits, toBits}
+use lib.Ieee.Bits.{ofBits-toBits}
+use Rattle.coincidence.specs.Coincidence.{OneToOne}
+use Rattle.coincidence.proofs.Laws.{undone}
+use Rattle.exact.specs.Numbers.{nought, isFinite, Number, steps}
+use Rattle.exact.proofs.Basics.{passed}
+use Rattle.root.specs.declared.Sheet.{Sheet}
+use Rattle.root.specs.declared.Working.{Working}
+use Rattle.root.specs.declared.Working.the-variants as working
+use Rattle.root.specs.Said as said
+use Rattle.root.specs.Form.{InForm}
+use Rattle.root.specs.Root.{nearestRoot, rootOf}
+use Rattle.root.specs.Paper.{halfOf, wholeOf, afterTurns, OnPaper, wordFrom, Shown, sheet, zero-itself, refused, shown, sheetOf, rootFrom}
+use Rattle.root.proofs.Form.{has-form, half-is, whole-is}
+use Rattle.root.proofs.Shape.{written, is-nearestRoot}
+use Rattle.root.proofs.Paper.{left-after, after-holds, last-is-root}
+use Rattle.root.proofs.Cases.{refuses-not-finite, refuses-below-zero, keeps-zero, finds-root, above-zero, word-between, shows-sheet, shows-zero, shows-refused}
+use Rattle.root.proofs.Theorems.{reasonFrom, reason-is}
+
+-- ---- a number above zero
+
+module _ (x : Float) (h : T (fits binary64 x)) (finite : isFinite x ≡ true) (below : lt x nought ≡ false) (zero : eq x nought ≡ false) where
+  number : Number binary64 x
+  number = (h, passed finite)
+
+  -- The root on paper 1: the division leaves nothing over, and v has 53 or 54 digits
+  pub in-rules-form : InForm (steps binary64 x) (wholeOf (steps binary64 x)) (halfOf (steps binary64 x))
+  in-rules-form =
+      let w = word-between x number (above-zero x number below zero) in
+      let f = has-form (toBits binary64 x) (w .0) (w .1) in
+      let form : InForm (steps binary64 x) (f .0) (f .1) = rw (ofBits-toBits binary64 x h) at (f .2) in
+      rw (← whole-is (steps binary64 x) (f .0) (f .1) form, ← half-is (steps binary64 x) (f .0) (f .1) form) form
+
+  room : wholeOf (steps binary64 x) < 2 ^ 54
+  room = omega (arith, in-rules-form .most)
+
+  last : nearestRoot x ≡ ofBits binary64 (wordFrom (halfOf (steps binary64 x)) (afterTurns (wholeOf (steps binary64 x)) 54 .digits))
+  last =
+      let v = wholeOf (steps binary64 x) in
+      let s = afterTurns v 54 in
+      sym (is-nearestRoot x _ h (written x v (halfOf (steps binary64 x)) (s .digits) in-rules-form (last-is-root s (after-holds v 54 room (omega arith)) (left-after v 54))))
+
+-- ---- every number
+
+-- what is refused, what is zero, and what is above zero
+module _ (x : Float) (h : T (fits binary64 x)) {A : Type 0} (refuses : (k : ℕ) → rootOf x ≡ said.refused k → A) (is-zero : rootOf x ≡ said.root x → eq x nought ≡ true → A) (above : isFinite x ≡ true → lt x nought ≡ false → eq x nought ≡ false → A) where
+  by-cases : A
+  by-cases = go (isFinite x) (lt x nought) (eq x nought) refl refl refl
+    where
+      go : (k l z : Bool) → isFinite x ≡ k → lt x nought ≡ l → eq x nought ≡ z → A
+      go false l z e f g = refuses 1 (refuses-not-finite x e)
+      go true true z e f g = refuses 13 (refuses-below-zero x e f)
+      go true false true e f g = is-zero (keeps-zero x e f g) g
+      go true false false e f g = above e f g
+
+-- The root on paper 6 and 7: what the last sheet comes to is the root
+pub answers-from-last : (x : Float) → T (fits binary64 x) → rootOf x ≡ rootFrom x (sheetOf x 54)
+answers-from-last x h =
+    by-cases x h
+    (λ k e. e ∙ sym (ap (rootFrom x) (shows-refused x 54 e)))
+    (λ e z. e ∙ sym (ap (rootFrom x) (shows-zero x 54 e z)))
+    (λ e f g. let r = finds-root x e f g in r ∙ ap said.root (last x h e f g) ∙ sym (ap (rootFrom x) (shows-sheet x 54 r g)))
+
+-- the sentence, where a sheet is shown
+abbrev Held : ℕ → Shown → Type 0
+Held v (sheet s) = OnPaper v s
+Held v zero-itself = Unit {0}
+Held v (refused k) = Unit {0}
+
+-- The root on paper 5: the sentence holds on each sheet of each number
+pub holds-on-each : (x : Float) → T (fits binary64 x) → (n : ℕ) (s : Sheet) → sheetOf x n ≡ sheet s → OnPaper (wholeOf (steps binary64 x)) s
+holds-on-each x h n s is = subst (Held v) is (by-cases x h (λ k e. shows (shows-refused x n e) tt) (λ e z. shows (shows-zero x n e z) tt) (λ e f g. shows (shows-sheet x n (finds-root x e f g) g) (after-holds v (min n 54) (room x h e f g) (omega arith))))
+  where
+    v : ℕ
+    v = wholeOf (steps binary64 x)
+
+    shows : {a : Shown} → sheetOf x n ≡ a → Held v a → Held v (sheetOf x n)
+    shows e = subst (Held v) (sym e)
+
+-- ---- no two answers show the same: what they show can be undone
+
+abbrev unshown : Shown → Working
+unshown (sheet s) = working.Sheet s
+unshown zero-itself = working.Zero
+unshown (refused k) = working.Refused (reasonFrom k)
+
+unshown-is : (a : Working) → unshown (shown a) ≡ a
+unshown-is (working.Sheet s) = refl
+unshown-is working.Zero = refl
+unshown-is (working.Refused why) = ap working.Refused (reason-is why)
+
+pub shown-once : OneToOne shown
+shown-once = undone shown unshown unshown-is
