@@ -4,11 +4,16 @@ use Rattle.coincidence.specs.Coincidence.{Fixes}
 use Rattle.coincidence.proofs.Laws.{one-result}
 use Rattle.text.proofs.count.Reads as count
 use Rattle.text.proofs.count.Kinds as count-kinds
+use Rattle.text.proofs.whole.Reads as whole
+use Rattle.text.proofs.whole.Kinds as whole-kinds
 use Rattle.text.proofs.number.Reads as number
 use Rattle.text.proofs.number.Kinds as number-kinds
 
 pub count-fixes : Fixes 1 count-kinds.ps count-kinds.r count.Learnt
 count-fixes κs a x y v w p q = (one-result (p .0) (q .0), ap (λ l. (l, (tt, (tt, tt)))) (one-result (p .1) (q .1)))
+
+pub whole-fixes : Fixes 1 whole-kinds.ps whole-kinds.r whole.Learnt
+whole-fixes κs a x y v w p q = (one-result (p .0) (q .0), ap (λ l. (l, (tt, (tt, tt)))) (one-result (p .1) (q .1)))
 
 pub number-fixes : Fixes 1 number-kinds.ps number-kinds.r number.Learnt
 number-fixes κs a x y v w p q = (one-result (p .0) (q .0), ap (λ l. (l, (tt, (tt, tt)))) (one-result (p .1) (q .1)))

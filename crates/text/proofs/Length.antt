@@ -11,7 +11,7 @@ use lib.Dec.{ltb}
 use lib.Ieee.{Float}
 use lib.ListN.{length, length-append}
 use Rattle.exact.specs.Numbers.{wordOf}
-use Rattle.text.specs.Text.{decimal, hex, count, number}
+use Rattle.text.specs.Text.{decimal, hex, count, whole, number}
 
 -- ---- decimal digits
 
@@ -60,7 +60,7 @@ length-self (suc k) n = go (digits k n) (length-self k (n / 10))
     go (single h e) fewer = omega arith
     go (several h e) fewer = omega arith
 
--- ---- hex digits, numbers and counts
+-- ---- hex digits, numbers, counts and whole numbers
 
 -- exactly as many as were asked for
 length-hex : (k n : ℕ) → length (hex k n) ≡ k
@@ -68,9 +68,12 @@ unfolding hex
 length-hex zero n = refl
 length-hex (suc k) n = length-append (hex k (n / 16)) _ ∙ add-one _ ∙ ap suc (length-hex k (n / 16))
 
--- with the space in front: a number has 17 bytes, a count at most 11
+-- with the space in front: a number has 17 bytes, a count at most 11, a whole number at most 21
 pub length-number : (x : Float) → length (number x) ≡ 17
 length-number x = ap suc (length-hex 16 (wordOf x))
 
 pub length-count : (n : ℕ) → length (count n) ≤ 11
 length-count n = omega (arith, length-decimal 10 n)
+
+pub length-whole : (n : ℕ) → length (whole n) ≤ 21
+length-whole n = omega (arith, length-decimal 20 n)

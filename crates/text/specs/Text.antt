@@ -26,6 +26,10 @@ decimal (suc k) n = cond (ltb n 10) [] (decimal k (n / 10)) ++ (digit (n % 10) �
 abbrev pub count : ℕ → List ℕ
 count n = 32 ∷ decimal 10 n
 
+-- Text 2: a whole number on a sheet, which has at most twenty digits
+abbrev pub whole : ℕ → List ℕ
+whole n = 32 ∷ decimal 20 n
+
 -- Text 3: the last k hex digits of n
 unfoldable pub hex : (k n : ℕ) → List ℕ
 hex zero n = []

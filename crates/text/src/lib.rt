@@ -1,5 +1,5 @@
-// Text in a lent buffer: counts and numbers, which stand behind each other as all pieces do. docs/RULES.md,
-// Text.
+// Text in a lent buffer: counts, whole numbers and numbers, which stand behind each other as all pieces do.
+// docs/RULES.md, Text.
 //
 // Every function here is proved, the public ones are total, and the crate assumes nothing.
 ghost use mathlib.Core.Path.{_≡_};
@@ -7,15 +7,23 @@ ghost use Prim.Native.Nat.{_<_};
 ghost use Rattle.pieces.specs.Pieces.{putIn, endIn};
 ghost use Rattle.text.specs.Text as text;
 
-// A space, and n in decimal, from the last digit on.
+// A space, and n in decimal.
 pub fn count(out: &mut [u8], at: usize, n: u32) -> usize
     ensures { λ r. ⌜ r ≡ endIn (now (out .entry)) at (text.count n) ⌝ }
     ensures { λ r. ⌜ now (out .exit) ≡ putIn (now (out .entry)) at (text.count n) ⌝ }
 {
-    let mut digits = [32u8; 11];
-    digits[10] = digit(n as u64 % 10);
-    let mut left = 10;
-    let mut rest = n as u64 / 10;
+    whole(out, at, n as u64)
+}
+
+// A space, and n in decimal, from the last digit on.
+pub fn whole(out: &mut [u8], at: usize, n: u64) -> usize
+    ensures { λ r. ⌜ r ≡ endIn (now (out .entry)) at (text.whole n) ⌝ }
+    ensures { λ r. ⌜ now (out .exit) ≡ putIn (now (out .entry)) at (text.whole n) ⌝ }
+{
+    let mut digits = [32u8; 21];
+    digits[20] = digit(n % 10);
+    let mut left = 20;
+    let mut rest = n / 10;
     while 0 < rest {
         left -= 1;
         digits[left] = digit(rest % 10);
