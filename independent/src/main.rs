@@ -18,6 +18,7 @@ mod kepler_edges;
 mod kepler_inputs;
 mod kinds;
 mod legs;
+mod long_hand;
 mod motion;
 mod problem_inputs;
 mod reading;
@@ -48,10 +49,10 @@ use suite::Suite;
 
 const USAGE: &str = "\
 usage: independent NAME inputs                    the gate's inputs, in little-endian bytes
-       independent NAME answers                   reads inputs, writes one line for each
+       independent NAME answers                   reads inputs, writes the lines of each
        independent NAME random SEED COUNT [FROM]  COUNT inputs made from SEED, from place FROM on
-NAME is a proved program's: roots, predict, turn or transfer. Each input of check_deck and copy_deck is
-a file, PLACE.deck, and so is each of write_deck, PLACE.problems; NAME is one of these three:
+NAME is a proved program's: roots, root_digits, predict, turn or transfer. Each input of check_deck and
+copy_deck is a file, PLACE.deck, and so is each of write_deck, PLACE.problems; NAME is one of these three:
        independent NAME inputs INTO               the gate's inputs, into the folder INTO
        independent NAME answers INPUTS INTO       for each input of a folder a file PLACE.answer
        independent NAME random SEED COUNT [FROM] INTO
@@ -68,28 +69,34 @@ const ROOTS: Suite<u64, 8> = Suite {
     fixed: root_inputs::fixed,
     mixed: root_inputs::mixed,
     bytes: |word| word.to_le_bytes(),
-    line: |bytes| root::root(u64::from_le_bytes(bytes)).to_string(),
+    lines: |bytes| root::root(u64::from_le_bytes(bytes)).to_string(),
+};
+
+const ROOT_DIGITS: Suite<u64, 8> = Suite {
+    fixed: root_inputs::fixed_digits,
+    lines: |bytes| long_hand::lines(u64::from_le_bytes(bytes)),
+    ..ROOTS
 };
 
 const PREDICT: Suite<kepler::Input, { kepler::PROBLEM }> = Suite {
     fixed: kepler_inputs::fixed,
     mixed: kepler_inputs::mixed,
     bytes: kepler::Input::bytes,
-    line: |bytes| kepler::answer(&kepler::Input::read(&bytes)).to_string(),
+    lines: |bytes| kepler::answer(&kepler::Input::read(&bytes)).to_string(),
 };
 
 const TURN: Suite<Words, 64> = Suite {
     fixed: theta_inputs::fixed,
     mixed: theta_inputs::mixed,
     bytes: words_to_bytes,
-    line: |bytes| theta::answer(&words_from_bytes(&bytes)).to_string(),
+    lines: |bytes| theta::answer(&words_from_bytes(&bytes)).to_string(),
 };
 
 const TRANSFER: Suite<transfer::Input, { transfer::RECORD }> = Suite {
     fixed: transfer_inputs::fixed,
     mixed: transfer_inputs::mixed,
     bytes: transfer::Input::bytes,
-    line: |bytes| transfer::answer(&transfer::Input::read(&bytes)).to_string(),
+    lines: |bytes| transfer::answer(&transfer::Input::read(&bytes)).to_string(),
 };
 
 const CHECK_DECK: FileSuite = FileSuite {
@@ -125,6 +132,7 @@ fn main() -> ExitCode {
     let mut out = BufWriter::new(io::stdout().lock());
     let done = match given[..] {
         ["roots", ref command @ ..] => ROOTS.run(&mut out, command),
+        ["root_digits", ref command @ ..] => ROOT_DIGITS.run(&mut out, command),
         ["predict", ref command @ ..] => PREDICT.run(&mut out, command),
         ["turn", ref command @ ..] => TURN.run(&mut out, command),
         ["transfer", ref command @ ..] => TRANSFER

@@ -1,12 +1,12 @@
-//! How the listing programs read: inputs of one size, one after the other, one line for each.
+//! How the listing programs read: inputs of one size, one after the other, and lines for each.
 
 use std::io::{self, Read, Write};
 
-/// Reads inputs of N bytes from standard input, as many as come, and writes the line of each. Input
+/// Reads inputs of N bytes from standard input, as many as come, and writes the lines of each. Input
 /// that ends inside an input ends the output with `short`.
 pub fn answer_each<const N: usize>(
     out: &mut impl Write,
-    line: impl Fn([u8; N]) -> String,
+    lines: impl Fn([u8; N]) -> String,
 ) -> io::Result<()> {
     let mut bytes = Vec::new();
     io::stdin().lock().read_to_end(&mut bytes)?;
@@ -16,7 +16,7 @@ pub fn answer_each<const N: usize>(
         writeln!(
             out,
             "{}",
-            line(input.try_into().expect("a piece has N bytes"))
+            lines(input.try_into().expect("a piece has N bytes"))
         )?;
     }
     if left != 0 {

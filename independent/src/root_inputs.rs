@@ -7,10 +7,22 @@ const INFINITY: u64 = 0x7ff << 52;
 const SMALLEST_NORMAL: u64 = 1 << 52;
 const FRACTION: u64 = SMALLEST_NORMAL - 1;
 
-/// The gate's inputs, the same list in every run.
+/// The gate's inputs for a root, the same list in every run.
 pub fn fixed() -> Vec<u64> {
+    list(1, 20_000)
+}
+
+/// The gate's inputs for a root's digits, which take many lines: fewer words of the same kinds. Some stand
+/// in pairs and in threes; one in eleven meets each place of these.
+pub fn fixed_digits() -> Vec<u64> {
+    list(11, 500)
+}
+
+/// The rules' trials, the edges and the powers of two; one in `each` of the other kinds; and a mixture
+/// of `more`.
+fn list(each: usize, more: usize) -> Vec<u64> {
     let chance = &mut Chance::at(1, 0);
-    // The rules' trials come first: 4, 0.25, 2^-1074, -0, -1.
+    // The trials: 4, 0.25, 2^-1074, -0, -1.
     let mut list = vec![
         4f64.to_bits(),
         0.25f64.to_bits(),
@@ -20,12 +32,11 @@ pub fn fixed() -> Vec<u64> {
     ];
     list.extend(edges());
     list.extend(powers_of_two());
-    list.extend(subnormals(chance));
-    list.extend(squares(chance));
-    list.extend(not_numbers(chance));
-    list.extend(negatives(chance));
-    list.extend(midways(chance));
-    list.extend((0..20_000).map(|_| mixed(chance)));
+    let kinds = [subnormals, squares, not_numbers, negatives, midways];
+    for kind in kinds {
+        list.extend(kind(chance).into_iter().step_by(each));
+    }
+    list.extend((0..more).map(|_| mixed(chance)));
     list
 }
 

@@ -11,8 +11,8 @@ pub struct Suite<I, const N: usize> {
     /// One input made by chance.
     pub mixed: fn(&mut Chance) -> I,
     pub bytes: fn(&I) -> [u8; N],
-    /// The line that answers one input.
-    pub line: fn([u8; N]) -> String,
+    /// The lines that answer one input, without the last line feed.
+    pub lines: fn([u8; N]) -> String,
 }
 
 impl<I, const N: usize> Suite<I, N> {
@@ -20,7 +20,7 @@ impl<I, const N: usize> Suite<I, N> {
     pub fn run(&self, out: &mut impl Write, command: &[&str]) -> Option<io::Result<()>> {
         match *command {
             ["inputs"] => Some(self.write(out, (self.fixed)().into_iter())),
-            ["answers"] => Some(answer_each(out, self.line)),
+            ["answers"] => Some(answer_each(out, self.lines)),
             ["random", seed, count] => self.random(out, [seed, count, "0"]),
             ["random", seed, count, from] => self.random(out, [seed, count, from]),
             _ => None,
