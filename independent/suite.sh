@@ -8,6 +8,7 @@
 # transfers kinds of input too, so that a list can't leave out what it must try.
 suites=(
     "roots 8 20000 refused 1: 1000, refused 13: 1000, root: 20000"
+    "root_digits 8 5000 refused 1: 50, refused 13: 200, root: 5000, rounded: 5000, turn: 270000"
     "predict 68 20000 refused 1: 20, refused 2: 20, refused 3: 20, refused 5: 20, refused 6: 20, \
 refused 7: 20, refused 8: 20, refused 9: 20, refused 10: 20, refused 11: 20, solved: 10000"
     "turn 64 10000 refused 1: 20, refused 2: 20, refused 4: 20, refused 5: 20, refused 6: 20, \
@@ -52,8 +53,8 @@ in_files() { # FORM
 }
 
 # The most inputs that are compared at a time: they and their answers take room.
-batch_of() { # FORM
-    if in_files "$1"; then echo 1000; else echo 65536; fi
+batch_of() { # NAME FORM
+    if in_files "$2"; then echo 1000; elif [ "$1" = root_digits ]; then echo 8192; else echo 65536; fi
 }
 
 # Has the independent program make inputs, in the file or folder PLACE.
@@ -137,19 +138,26 @@ show_both() { # OURS THEIRS
     echo "  independent program:        $2"
 }
 
-# One line for each input.
+# How many answers end in the lines that come in. Each line that has its line feed ends one, but for those
+# of root_digits behind which the root is still to come.
+answers_in() {
+    sed -E '/^(turn|rounded) /d' | wc -l
+}
+
+# An answer for each input, one behind the other.
 same_lines() { # NAME WIDTH INPUTS OURS THEIRS
-    local name=$1 width=$2 inputs=$3 ours=$4 theirs=$5 count place
+    local name=$1 width=$2 inputs=$3 ours=$4 theirs=$5 count line place
     count=$(count_inputs "$width" "$inputs")
-    place=$(first_difference "$ours" "$theirs")
-    if [ -n "$place" ]; then
+    line=$(first_difference "$ours" "$theirs")
+    if [ -n "$line" ]; then
+        place=$(($(head -n $((line - 1)) "$ours" | answers_in) + 1))
         echo "$name: the answers differ, first at input $place of $count"
         echo "  input, in words of 8 bytes: $(od -An -v -t x8 -j $(((place - 1) * width)) -N "$width" "$inputs" | xargs)"
-        show_both "$(line_of "$place" "$ours")" "$(line_of "$place" "$theirs")"
+        show_both "$(line_of "$line" "$ours")" "$(line_of "$line" "$theirs")"
         return 1
     fi
-    if [ "$(wc -l <"$ours")" -ne "$count" ]; then
-        echo "$name: $count inputs, and $(wc -l <"$ours") lines from each program"
+    if [ "$(answers_in <"$ours")" -ne "$count" ]; then
+        echo "$name: $count inputs, and $(answers_in <"$ours") answers from each program"
         return 1
     fi
 }
