@@ -1,8 +1,8 @@
-"""What `predict`, `turn`, `transfer` and `root` share: numbers or '-' in, the program's lines out.
+"""What `predict`, `turn`, `transfer`, `root` and `digits` share: numbers or '-' in, lines out.
 
-With numbers, the same in decimals stands below or behind the program's line. With '-' the lines are
-passed on as they are and as they come; a line that is cut off is not passed on. Status 0 where every
-line is `solved` or `root`, else 1.
+With numbers, the same in decimals stands below or behind the program's line; `digits` shows its lines
+as a table. With '-' the lines are passed on as they are and as they come; a line that is cut off is
+not passed on. Status 0 where every line is a good one, else 1.
 """
 
 from __future__ import annotations
@@ -18,6 +18,9 @@ if TYPE_CHECKING:
     Pack = Callable[[list[str]], bytes]
     More = Optional[Callable[[bytes, str], list[str]]]
 
+# How a line begins that is an answer, or a part of one. Any other is a refusal, `short`, or unknown.
+GOOD = (b"solved ", b"root ", b"turn ", b"rounded ")
+
 
 def answer(command: str, name: str, texts: list[str], pack: Pack = words.packed, more: More = None) -> int:
     """Answers with the program of that name. `more` gives the rows that follow those of a line."""
@@ -25,11 +28,15 @@ def answer(command: str, name: str, texts: list[str], pack: Pack = words.packed,
     if texts == ["-"]:
         source = streams.open_input(command, "-")
         return answer_input(command, name, source)
+    return answer_record(command, name, record_of(command, texts, pack), more)
+
+
+def record_of(command: str, texts: list[str], pack: Pack = words.packed) -> bytes:
+    """The record that the texts make; Stop where one of them is wrong."""
     try:
-        record = pack(texts)
+        return pack(texts)
     except words.Wrong as wrong:
         raise Stop(f"{command}: {wrong}; './tailfiddle help' tells more") from None
-    return answer_record(command, name, record, more)
 
 
 def given(command: str, count: int, texts: list[str], what: str = "") -> None:
@@ -73,12 +80,17 @@ def explained(command: str, line: str) -> list[str]:
     """A line, and what people are told of it."""
     first, *rest = line.split(" ")
     if command == "root":
-        return [f"{line} {decimal(rest[0])}" if first == "root" else line]
+        return [root_row(line) if first == "root" else line]
     if first == "solved":
         return [line, *(found_rows(rest) if command == "transfer" else solved_rows(command, rest))]
     if first == "refused":
         return [line, *refused_rows(rest)]
     return [line]
+
+
+def root_row(line: str) -> str:
+    """A root's line, and its decimal behind it."""
+    return f"{line} {decimal(line.split(' ')[1])}"
 
 
 def solved_rows(command: str, rest: list[str]) -> list[str]:
@@ -101,7 +113,12 @@ def found_rows(rest: list[str]) -> list[str]:
 def refused_rows(rest: list[str]) -> list[str]:
     """Below a line with `refused`: the reason, guesses, and the last bracket if there is one."""
     bracket = [row("bracket", " to ".join(map(decimal, rest[2:])))] if len(rest) == 4 else []
-    return [row("reason", page.reason(int(rest[0]))), *guesses(rest[1]), *bracket]
+    return [reason_row(rest[0]), *guesses(rest[1]), *bracket]
+
+
+def reason_row(number: str) -> str:
+    """What a refusal's number means."""
+    return row("reason", page.reason(int(number)))
 
 
 def guesses(count: str) -> list[str]:
@@ -140,7 +157,7 @@ def answer_input(command: str, name: str, source: int) -> int:
 
 
 def pass_lines(source: int) -> tuple[int, bytes]:
-    """Passes whole lines on. How many are neither `solved` nor `root`, and what is left at the end."""
+    """Passes whole lines on. How many are no good ones, and what is left at the end."""
     rest = b""
     count = 0
     for block in streams.blocks(source):
@@ -153,9 +170,9 @@ def pass_lines(source: int) -> tuple[int, bytes]:
 
 
 def others(lines: bytes) -> int:
-    """How many of the lines, each of which is ended, are neither `solved` nor `root`."""
+    """How many of the lines, each of which is ended, are no good ones."""
     begun = b"\n" + lines
-    return lines.count(b"\n") - begun.count(b"\nsolved ") - begun.count(b"\nroot ")
+    return lines.count(b"\n") - sum(begun.count(b"\n" + word) for word in GOOD)
 
 
 def unwritten(command: str) -> str:

@@ -224,8 +224,9 @@ class Answers(unittest.TestCase):
 
     def test_other_lines_are_counted(self):
         self.assertEqual(answers.others(b""), 0)
-        self.assertEqual(answers.others(b"solved 1\nroot 2\n"), 0)
+        self.assertEqual(answers.others(b"solved 1\nroot 2\nturn 1 2 1 1 1\nrounded 3 2\n"), 0)
         self.assertEqual(answers.others(b"refused 1 0\nsolved 1\nshort\nsolvedx\nunsolved root \n"), 4)
+        self.assertEqual(answers.others(b"refused 13\nturn 1\nturn\nturned 1\n turn 1\nround 1\n\n"), 6)
 
     def test_lines_are_passed_on_whole(self):
         passed = []
