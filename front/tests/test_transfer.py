@@ -1,15 +1,11 @@
-"""`transfer`, with programs of the system in the place of `transfer` and `predict`.
+"""`transfer`, with programs of the system in the place of `transfer` and `predict`."""
 
-Each stand-in keeps what it reads in a file of its name, and prints what the test wants it to print.
-"""
-
-import os
 import struct
-import tempfile
 import unittest
 from unittest import mock
 
-from front import commands, streams, transfer, words
+from front import streams, transfer, words
+from front.tests.stand import Stand
 
 ASKED = "transfer 398600.4418 7000 0 0 0 8000 0x408f400000000000 1800 50 short".split()
 RECORD = struct.pack("<8dII", 398600.4418, 7000, 0, 0, 0, 8000, 1000, 1800, 50, 0)
@@ -32,53 +28,15 @@ SHOWN_ARRIVAL = """\
 """
 
 
-class Stand(unittest.TestCase):
-    """Two programs that stand in. What the command prints and says is kept, with its descriptor."""
+class Transfer(Stand):
+    """Both programs stand in."""
 
     def setUp(self):
-        folder = tempfile.TemporaryDirectory()
-        self.addCleanup(folder.cleanup)
-        self.folder = folder.name
+        super().setUp()
         self.prints = {"transfer": SOLVED, "predict": ARRIVED}
-        self.ends = {"transfer": "exit 0", "predict": "exit 0"}
-        self.written = {1: "", 2: ""}
-        self.write = streams.write
-        for name, stand_in in (("write", self.keep), ("plug", lambda: None)):
-            self.patch(mock.patch.object(streams, name, stand_in))
-        self.patch(mock.patch("front.built.ready", self.ready))
-
-    def patch(self, patch):
-        patch.start()
-        self.addCleanup(patch.stop)
-
-    def keep(self, descriptor, data):
-        """Keeps what goes to standard output and error; a program gets its input."""
-        if descriptor in self.written:
-            self.written[descriptor] += data.decode()
-        else:
-            self.write(descriptor, data)
-
-    def ready(self, name):
-        """The words that run a stand-in; its name is the last of them, as a program's is."""
-        script = f"cat >{self.folder}/{name}; printf '%s' '{self.prints[name]}'; {self.ends[name]}"
-        return ["/bin/sh", "-c", script, name]
-
-    def given(self, name):
-        """What a program was given; None where it was not run."""
-        path = os.path.join(self.folder, name)
-        if not os.path.exists(path):
-            return None
-        with open(path, "rb") as file:
-            return file.read()
-
-    def check(self, texts, status, printed, said=""):
-        """Runs the command; standard error has to be of that form."""
-        self.assertEqual(commands.main(texts), status, self.written)
-        self.assertEqual(self.written[1], printed)
-        self.assertRegex(self.written[2], f"^{said}$")
 
 
-class Solved(Stand):
+class Solved(Transfer):
     """A transfer that is solved, and where it arrives."""
 
     def test_what_is_asked_and_what_is_shown(self):
@@ -148,7 +106,7 @@ class Solved(Stand):
         self.assertIn("            distance  0 km from R2", transfer.state_rows([f"{0:016x}"] * 6, (0, 0, 0)))
 
 
-class Refused(Stand):
+class Refused(Transfer):
     """A transfer that is refused: the reason is said, and predict is not asked."""
 
     def test_refusals(self):
@@ -194,7 +152,7 @@ class Refused(Stand):
                 self.assertIsNone(self.given("predict"))
 
 
-class Wrong(Stand):
+class Wrong(Transfer):
     """Wrong usage: one line that says what to do, and no program is run."""
 
     def test_wrong_words(self):
@@ -220,15 +178,11 @@ class Wrong(Stand):
                 self.assertIsNone(self.given("transfer"))
 
 
-class Passed(Stand):
+class Passed(Transfer):
     """With '-' the records go in as they come, and the program's lines come out as they are."""
 
     def pass_through(self, data, status, printed, said=""):
-        with tempfile.TemporaryFile() as file:
-            file.write(data)
-            file.seek(0)
-            with mock.patch.object(streams, "open_input", return_value=file.fileno()):
-                self.check(["transfer", "-"], status, printed, said)
+        self.check_input("transfer", data, status, printed, said)
         self.assertEqual(self.given("transfer"), data)
         self.assertIsNone(self.given("predict"))
 
