@@ -142,7 +142,7 @@ def output_of(command: list[str], data: bytes) -> bytes:
 
 
 def failed(command: list[str]) -> Stop:
-    """What is said where a program fails, or its last line is cut off."""
+    """What is said where a program fails, or its lines are not whole."""
     return Stop(f"the program {os.path.basename(command[-1])} did not end as it should")
 
 

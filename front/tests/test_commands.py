@@ -5,7 +5,7 @@ import tempfile
 import unittest
 from unittest import mock
 
-from front import answers, commands, listing, show, streams, words
+from front import answers, commands, help, listing, show, streams, words
 from front.tests.test_words import PROBLEM, REFUSED, SOLVED, TRANSFER, deck_of
 
 SHOWN = """\
@@ -167,6 +167,10 @@ class Ran(unittest.TestCase):
                 self.written = b""
                 self.assertEqual(commands.main(command.split()), 2)
                 self.assertIn(f", and {count} were given; ".encode(), self.written)
+
+    def test_help_has_each_command(self):
+        for name in set(commands.COMMANDS) - {"run"}:
+            self.assertIn(f" ./tailfiddle {name} ", help.TEXT)
 
     def test_a_fault_is_no_refusal(self):
         with mock.patch("front.why.run", side_effect=RuntimeError("odd")):
