@@ -1,9 +1,6 @@
 -- The line of one record: RULES, Lines. Definitions only.
 use Prim.Native.Nat.{ℕ}
-use mathlib.Core.List.{List, [], _∷_}
-use Rattle.pieces.specs.Pieces.{joined}
-use Rattle.text.specs.Text.{text, count, number}
-use Rattle.root.specs.Said as root
+use mathlib.Core.List.{List}
 use Rattle.root.specs.Root.{rootOf}
 use Rattle.conic.specs.declared.Problem.{Problem}
 use Rattle.conic.specs.Said as conic
@@ -12,6 +9,7 @@ use Rattle.theta.specs.Theta.{thetaOf}
 use Rattle.lambert.specs.Lambert.{answerTo}
 use Rattle.card.specs.Fields.{problemSize, transferSize, numberAt, problemOf, transferOf}
 use Rattle.outcomes.specs.Outcomes.{outcomeLine, transferLine, mostOutcome}
+use Rattle.sheets.specs.Sheets.{rootLine, workingLines, mostWorking}
 use Rattle.line.specs.declared.Question.{Question}
 use Rattle.line.specs.declared.Question.the-variants as question
 
@@ -21,27 +19,28 @@ widthOf question.Root = 8
 widthOf question.Kepler = problemSize
 widthOf question.Theta = 64
 widthOf question.Transfer = transferSize
-
--- Lines 2: `root WORD` or `refused NUMBER`
-abbrev pub rootLine : root.Said → List ℕ
-rootLine (root.root x) = joined (text "root" ∷ number x ∷ text "\n" ∷ [])
-rootLine (root.refused k) = joined (text "refused" ∷ count k ∷ text "\n" ∷ [])
+widthOf question.Digits = 8
 
 -- an angle problem has its angle where a problem has its time
 abbrev pub turned : Problem → conic.Said
 turned p = thetaOf (p .mu) (p .r) (p .v) (p .dt)
 
--- Lines 1 to 4: what is asked of the record, and its answer's line
+-- Lines 1 to 4 and 6: what is asked of the record, and its answer's line or lines
 unfoldable pub lineOf : Question → (bytes : List ℕ) → List ℕ
 lineOf question.Root bytes = rootLine (rootOf (numberAt bytes 0))
 lineOf question.Kepler bytes = outcomeLine (keplerOf (problemOf bytes))
 lineOf question.Theta bytes = outcomeLine (turned (problemOf bytes))
 lineOf question.Transfer bytes = transferLine (answerTo (transferOf bytes))
+lineOf question.Digits bytes = workingLines (numberAt bytes 0)
 
 -- no record has more bytes
 abbrev pub mostWidth : ℕ
 mostWidth = transferSize
 
--- no line has more bytes
-abbrev pub mostLine : ℕ
-mostLine = mostOutcome
+-- what is written for a record has no more bytes
+abbrev pub mostLine : Question → ℕ
+mostLine question.Root = mostOutcome
+mostLine question.Kepler = mostOutcome
+mostLine question.Theta = mostOutcome
+mostLine question.Transfer = mostOutcome
+mostLine question.Digits = mostWorking

@@ -1,15 +1,14 @@
-// The line of one record, as `predict`, `turn`, `transfer` and `roots` write it. docs/RULES.md, Lines.
+// What is written for one record by `predict`, `turn`, `transfer`, `roots` and `root_digits`: a line, or
+// for the last the lines of a root's turns. docs/RULES.md, Lines.
 //
-// A record is what one question takes: eight bytes for a root, 68 for Kepler, 64 for Theta, 72 for a
+// A record is what one question takes: eight bytes for a root or its turns, 68 for Kepler, 64 for Theta, 72 for a
 // transfer. Every function here is proved and total, and the crate assumes nothing.
 use card::Asked;
 use conic::Outcome;
 use conic::Problem;
-use root::Answer;
 use ruling::Fault;
 ghost use mathlib.Core.Path.{_≡_};
 ghost use Rattle.pieces.specs.Pieces.{putIn, endIn, Put};
-ghost use Rattle.root.specs.Said as root;
 ghost use Rattle.conic.specs.Said as conic;
 ghost use Rattle.card.specs.Said as card;
 ghost use Rattle.lambert.specs.Lambert.{answerTo};
@@ -22,6 +21,7 @@ pub enum Question {
     Kepler,
     Theta,
     Transfer,
+    Digits,
 }
 
 // The bytes of one record.
@@ -33,6 +33,7 @@ pub fn width(asked: Question) -> usize
         Question::Kepler => card::PROBLEM,
         Question::Theta => 64,
         Question::Transfer => card::TRANSFER,
+        Question::Digits => 8,
     }
 }
 
@@ -42,10 +43,11 @@ pub fn line(asked: Question, s: &[u8], out: &mut [u8], at: usize) -> usize
     ensures { λ r. ⌜ now (out .exit) ≡ putIn (now (out .entry)) at (line.lineOf asked (now (s .entry))) ⌝ }
 {
     match asked {
-        Question::Root => root_line(root::root(card::number(s, 0)), out, at),
+        Question::Root => sheets::put_root(root::root(card::number(s, 0)), out, at),
         Question::Kepler => outcomes::put(kepler::kepler(card::problem(s)), out, at),
         Question::Theta => outcomes::put(turned(card::problem(s)), out, at),
         Question::Transfer => transfer_line(card::transfer(s), out, at),
+        Question::Digits => sheets::put_working(card::number(s, 0), out, at),
     }
 }
 
@@ -63,23 +65,5 @@ fn transfer_line(asked: Asked, out: &mut [u8], at: usize) -> usize
     match asked {
         Asked::Transfer(q) => outcomes::put_transfer(lambert::lambert(q), out, at),
         Asked::UnknownWay => outcomes::refused(Fault::WordNotAllowed.number(), 0, out, at),
-    }
-}
-
-// `root WORD` or `refused NUMBER`.
-fn root_line(answer: Answer, out: &mut [u8], at: usize) -> usize
-    ensures { λ r. ⌜ Put (now (out .entry)) at (line.rootLine (root.said answer)) (now (out .exit)) r ⌝ }
-{
-    match answer {
-        Answer::Root(x) => {
-            let mut end = pieces::put(out, at, b"root");
-            end = text::number(out, end, x);
-            pieces::put(out, end, b"\n")
-        }
-        Answer::Refused(why) => {
-            let mut end = pieces::put(out, at, b"refused");
-            end = text::count(out, end, why.number());
-            pieces::put(out, end, b"\n")
-        }
     }
 }

@@ -4,7 +4,9 @@ use mathlib.Core.List.{List, [], _∷_, _++_}
 use lib.ListN.{length, take, drop}
 use Rattle.text.specs.Text.{text}
 use Rattle.line.specs.declared.Question.{Question}
-use Rattle.line.specs.Line.{widthOf, lineOf, mostWidth, mostLine}
+use Rattle.line.specs.declared.Question.the-variants as question
+use Rattle.line.specs.Line.{widthOf, lineOf, mostWidth}
+use Rattle.outcomes.specs.Outcomes.{mostOutcome}
 
 -- Lines 5: what is left behind the last whole record: nothing, or a record that is cut off
 abbrev pub leftOver : List ℕ → List ℕ
@@ -20,16 +22,23 @@ linesFrom asked (suc n) bytes = lineOf asked (take (widthOf asked) bytes) ++ lin
 abbrev pub linesOf : Question → List ℕ → List ℕ
 linesOf asked bytes = linesFrom asked (length bytes / widthOf asked) bytes
 
--- the records that are answered at a time, and the bytes that so many have
-abbrev pub blockRecords : ℕ
-blockRecords = 64
+-- the records that are answered at a time, 64, and of a root's turns, which take many lines, one; and the bytes that so many have
+abbrev pub mostRecords : ℕ
+mostRecords = 64
+
+abbrev pub blockRecords : Question → ℕ
+blockRecords question.Root = mostRecords
+blockRecords question.Kepler = mostRecords
+blockRecords question.Theta = mostRecords
+blockRecords question.Transfer = mostRecords
+blockRecords question.Digits = 1
 
 abbrev pub blockBytes : Question → ℕ
-blockBytes asked = blockRecords * widthOf asked
+blockBytes asked = blockRecords asked * widthOf asked
 
 -- the most bytes that a block has
 abbrev pub mostBlock : ℕ
-mostBlock = blockRecords * mostWidth
+mostBlock = mostRecords * mostWidth
 
 -- no input has as many blocks, since a word counts its bytes
 abbrev pub mostBlocks : ℕ
@@ -40,4 +49,4 @@ blockOf asked bytes = take (blockBytes asked) bytes
 
 -- the lines of no block have more bytes
 abbrev pub mostText : ℕ
-mostText = blockRecords * mostLine + 6
+mostText = mostRecords * mostOutcome + 6

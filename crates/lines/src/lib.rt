@@ -1,5 +1,5 @@
-// Records in, a line for each out: what `predict`, `turn`, `transfer` and `roots` write.
-// docs/RULES.md, Lines.
+// Records in, a line for each out, or the lines of its turns: what `predict`, `turn`, `transfer`,
+// `roots` and `root_digits` write. docs/RULES.md, Lines.
 //
 // Every function here is proved, the public ones are total, and the crate assumes nothing.
 use line::Question;
@@ -7,9 +7,9 @@ ghost use mathlib.Core.Path.{_≡_};
 ghost use Prim.Native.Nat.{_≤_, min};
 ghost use lib.ListN.{length};
 ghost use Rattle.pieces.specs.Pieces.{Put, handedIn};
-ghost use Rattle.lines.specs.Lines.{linesOf, blockOf, blockBytes, mostText};
+ghost use Rattle.lines.specs.Lines.{linesOf, blockOf, blockRecords, blockBytes, mostText};
 
-// The records that are answered at a time, and the room that their lines take at most: 137 bytes
+// The most records that are answered at a time, and the room that their lines take at most: 137 bytes
 // each, and `short` with its line end.
 const RECORDS: usize = 64;
 
@@ -19,7 +19,17 @@ pub const ROOM: usize = 8774;
 pub fn block(asked: Question) -> usize
     ensures { λ r. ⌜ r ≡ blockBytes asked ⌝ }
 {
-    RECORDS * line::width(asked)
+    records(asked) * line::width(asked)
+}
+
+// As many records as are answered at a time: of a root's turns, which take many lines, one.
+fn records(asked: Question) -> usize
+    ensures { λ r. ⌜ r ≡ blockRecords asked ⌝ }
+{
+    match asked {
+        Question::Digits => 1,
+        _ => RECORDS,
+    }
 }
 
 // The lines of the first block of s, in out, if out has room for them. Answers how long they are.
