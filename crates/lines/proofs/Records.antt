@@ -3,7 +3,7 @@ use mathlib.Core.Path.{_≡_, refl, sym, ap, _∙_}
 use mathlib.Core.Bool.{Bool, true, false}
 use mathlib.Core.List.{List, [], _∷_, _++_, append-assoc}
 use Prim.Native.Nat.{ℕ, zero, suc, _+_, _-_, _*_, _/_, _≤_, _<_, min}
-use native.Mathlib.Nat.{mul-le-mul-right, mul-div-le, div-eq-sub-div, div-eq-of-lt, div-le-of-le-mul, zero-mul, suc-mul, mul-comm, le-trans, le-of-eq, min-eq-left}
+use native.Mathlib.Nat.{mul-le-mul, mul-le-mul-right, le-mul-of-pos-right, mul-div-le, div-eq-sub-div, div-eq-of-lt, div-le-of-le-mul, zero-mul, suc-mul, mul-comm, le-trans, le-of-eq, min-eq-left}
 use native.Mathlib.Numerals.{add-one}
 use native.Mathlib.Omega.{arith}
 use borrow.Author.Tests.{leb-true, leb-false}
@@ -13,18 +13,44 @@ use lib.Seq.{take-all, take-append-le, drop-append-le}
 use Rattle.pieces.specs.Pieces.{handedIn}
 use Rattle.pieces.proofs.Puts.{InFront, found}
 use Rattle.line.specs.declared.Question.{Question}
+use Rattle.line.specs.declared.Question.the-variants as question
 use Rattle.line.specs.Line.{widthOf, lineOf, mostLine}
 use Rattle.line.proofs.Widths.{width-least, width-most, line-most}
-use Rattle.lines.specs.Lines.{leftOver, linesFrom, linesOf, blockRecords, blockBytes, mostBlock, mostBlocks, blockOf, mostText}
+use Rattle.lines.specs.Lines.{leftOver, linesFrom, linesOf, mostRecords, blockRecords, blockBytes, mostBlock, mostBlocks, blockOf, mostText}
 
--- the most bytes that a block has
+-- how many records a block has, and that there is room for what is written for them
+pub records-least : (asked : Question) → 1 ≤ blockRecords asked
+records-least question.Root = omega arith
+records-least question.Kepler = omega arith
+records-least question.Theta = omega arith
+records-least question.Transfer = omega arith
+records-least question.Digits = omega arith
+
+pub records-most : (asked : Question) → blockRecords asked ≤ mostRecords
+records-most question.Root = omega arith
+records-most question.Kepler = omega arith
+records-most question.Theta = omega arith
+records-most question.Transfer = omega arith
+records-most question.Digits = omega arith
+
+enough-room : (asked : Question) → blockRecords asked * mostLine asked + 6 ≤ mostText
+enough-room question.Root = omega arith
+enough-room question.Kepler = omega arith
+enough-room question.Theta = omega arith
+enough-room question.Transfer = omega arith
+enough-room question.Digits = omega arith
+
+-- the least and the most bytes that a block has
+block-least : (asked : Question) → 8 ≤ blockBytes asked
+block-least asked = le-trans (width-least asked) (le-trans (le-mul-of-pos-right (widthOf asked) (records-least asked)) (le-of-eq (mul-comm (widthOf asked) (blockRecords asked))))
+
 pub block-most : (asked : Question) → blockBytes asked ≤ mostBlock
-block-most asked = omega (arith, width-most asked)
+block-most asked = mul-le-mul (records-most asked) (width-most asked)
 
 -- an input whose bytes a word counts has fewer blocks than the programs would read
 pub blocks-most : (asked : Question) (bytes : List ℕ) → length bytes ≤ mostBlocks → length bytes / blockBytes asked < mostBlocks
 blocks-most asked bytes h =
-    let many : 2 * (length bytes / blockBytes asked) ≤ length bytes = le-trans (mul-le-mul-right (length bytes / blockBytes asked) (omega (arith, width-least asked))) (mul-div-le (length bytes) (blockBytes asked)) in
+    let many : 2 * (length bytes / blockBytes asked) ≤ length bytes = le-trans (mul-le-mul-right (length bytes / blockBytes asked) (omega (arith, block-least asked))) (mul-div-le (length bytes) (blockBytes asked)) in
     omega (arith, h, many)
 
 width-some : (asked : Question) → 0 < widthOf asked
@@ -75,7 +101,7 @@ left-most : (bytes : List ℕ) → length (leftOver bytes) ≤ 6
 left-most [] = omega arith
 left-most (b ∷ bytes) = omega arith
 
-from-most : (asked : Question) (n : ℕ) (bytes : List ℕ) → length (linesFrom asked n bytes) ≤ n * mostLine + 6
+from-most : (asked : Question) (n : ℕ) (bytes : List ℕ) → length (linesFrom asked n bytes) ≤ n * mostLine asked + 6
 unfolding linesFrom
 from-most asked zero bytes = omega (arith, left-most bytes)
 from-most asked (suc n) bytes =
@@ -84,8 +110,9 @@ from-most asked (suc n) bytes =
 
 pub text-most : (asked : Question) (bytes : List ℕ) → length bytes ≤ blockBytes asked → length (linesOf asked bytes) ≤ mostText
 text-most asked bytes h =
-    let few : length bytes / widthOf asked ≤ blockRecords = div-le-of-le-mul (widthOf asked) (le-trans h (le-of-eq (mul-comm blockRecords (widthOf asked)))) in
-    omega (arith, few, from-most asked (length bytes / widthOf asked) bytes)
+    let n : ℕ = length bytes / widthOf asked in
+    let few : n ≤ blockRecords asked = div-le-of-le-mul (widthOf asked) (le-trans h (le-of-eq (mul-comm (blockRecords asked) (widthOf asked)))) in
+    omega (arith, enough-room asked, mul-le-mul-right (mostLine asked) few, from-most asked n bytes)
 
 -- the lines of records that are no more than a block, handed over in a buffer with room for the text of any block
 pub lines-found : (asked : Question) (bytes buffer : List ℕ) {after : List ℕ} {n : ℕ} → length bytes ≤ blockBytes asked → mostText ≤ length buffer

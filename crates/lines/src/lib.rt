@@ -19,16 +19,19 @@ pub const ROOM: usize = 8774;
 pub fn block(asked: Question) -> usize
     ensures { λ r. ⌜ r ≡ blockBytes asked ⌝ }
 {
-    records(asked) * line::width(asked)
+    at_a_time(asked) * line::width(asked)
 }
 
 // As many records as are answered at a time: of a root's turns, which take many lines, one.
-fn records(asked: Question) -> usize
+fn at_a_time(asked: Question) -> usize
     ensures { λ r. ⌜ r ≡ blockRecords asked ⌝ }
 {
     match asked {
+        Question::Root => RECORDS,
+        Question::Kepler => RECORDS,
+        Question::Theta => RECORDS,
+        Question::Transfer => RECORDS,
         Question::Digits => 1,
-        _ => RECORDS,
     }
 }
 

@@ -50,39 +50,65 @@ module _ (x : Float) (h : T (fits binary64 x)) (finite : isFinite x ≡ true) (b
 -- ---- every number
 
 -- what is refused, what is zero, and what is above zero
-module _ (x : Float) (h : T (fits binary64 x)) {A : Type 0} (refuses : (k : ℕ) → rootOf x ≡ said.refused k → A) (is-zero : rootOf x ≡ said.root x → eq x nought ≡ true → A) (above : isFinite x ≡ true → lt x nought ≡ false → eq x nought ≡ false → A) where
-  by-cases : A
-  by-cases = go (isFinite x) (lt x nought) (eq x nought) refl refl refl
-    where
-      go : (k l z : Bool) → isFinite x ≡ k → lt x nought ≡ l → eq x nought ≡ z → A
-      go false l z e f g = refuses 1 (refuses-not-finite x e)
-      go true true z e f g = refuses 13 (refuses-below-zero x e f)
-      go true false true e f g = is-zero (keeps-zero x e f g) g
-      go true false false e f g = above e f g
+by-cases : (x : Float) {A : Type 0} → ((k : ℕ) → rootOf x ≡ said.refused k → A) → (rootOf x ≡ said.root x → eq x nought ≡ true → A) → (isFinite x ≡ true → lt x nought ≡ false → eq x nought ≡ false → A) → A
+by-cases x {A} refuses is-zero above = go (isFinite x) (lt x nought) (eq x nought) refl refl refl
+  where
+    go : (k l z : Bool) → isFinite x ≡ k → lt x nought ≡ l → eq x nought ≡ z → A
+    go false l z e f g = refuses 1 (refuses-not-finite x e)
+    go true true z e f g = refuses 13 (refuses-below-zero x e f)
+    go true false true e f g = is-zero (keeps-zero x e f g) g
+    go true false false e f g = above e f g
 
 -- The root on paper 6 and 7: what the last sheet comes to is the root
 pub answers-from-last : (x : Float) → T (fits binary64 x) → rootOf x ≡ rootFrom x (sheetOf x 54)
 answers-from-last x h =
-    by-cases x h
+    by-cases x
     (λ k e. e ∙ sym (ap (rootFrom x) (shows-refused x 54 e)))
     (λ e z. e ∙ sym (ap (rootFrom x) (shows-zero x 54 e z)))
     (λ e f g. let r = finds-root x e f g in r ∙ ap said.root (last x h e f g) ∙ sym (ap (rootFrom x) (shows-sheet x 54 r g)))
 
--- the sentence, where a sheet is shown
-abbrev Held : ℕ → Shown → Type 0
-Held v (sheet s) = OnPaper v s
-Held v zero-itself = Unit {0}
-Held v (refused k) = Unit {0}
+-- something that holds where a sheet is shown
+abbrev OfSheet : (Sheet → Type 0) → Shown → Type 0
+OfSheet P (sheet s) = P s
+OfSheet P zero-itself = Unit {0}
+OfSheet P (refused k) = Unit {0}
+
+-- it holds of the sheet after n turns where it does for a number above zero
+of-sheet : (P : Sheet → Type 0) (x : Float) (n : ℕ) → (isFinite x ≡ true → lt x nought ≡ false → eq x nought ≡ false → P (afterTurns (wholeOf (steps binary64 x)) (min n 54))) → OfSheet P (sheetOf x n)
+of-sheet P x n holds =
+    by-cases x (λ k e. shows (shows-refused x n e) tt) (λ e z. shows (shows-zero x n e z) tt) (λ e f g. shows (shows-sheet x n (finds-root x e f g) g) (holds e f g))
+  where
+    shows : {a : Shown} → sheetOf x n ≡ a → OfSheet P a → OfSheet P (sheetOf x n)
+    shows e = subst (OfSheet P) (sym e)
 
 -- The root on paper 5: the sentence holds on each sheet of each number
 pub holds-on-each : (x : Float) → T (fits binary64 x) → (n : ℕ) (s : Sheet) → sheetOf x n ≡ sheet s → OnPaper (wholeOf (steps binary64 x)) s
-holds-on-each x h n s is = subst (Held v) is (by-cases x h (λ k e. shows (shows-refused x n e) tt) (λ e z. shows (shows-zero x n e z) tt) (λ e f g. shows (shows-sheet x n (finds-root x e f g) g) (after-holds v (min n 54) (room x h e f g) (omega arith))))
-  where
-    v : ℕ
-    v = wholeOf (steps binary64 x)
+holds-on-each x h n s is =
+    let v = wholeOf (steps binary64 x) in
+    subst (OfSheet (OnPaper v)) is (of-sheet (OnPaper v) x n (λ e f g. after-holds v (min n 54) (room x h e f g) (omega arith)))
 
-    shows : {a : Shown} → sheetOf x n ≡ a → Held v a → Held v (sheetOf x n)
-    shows e = subst (Held v) (sym e)
+-- what is shown is no two things
+is-sheet : Shown → Type 0
+is-sheet (sheet s) = Unit {0}
+is-sheet zero-itself = ⊥
+is-sheet (refused k) = ⊥
+
+pub never-zero : {s : Sheet} → sheet s ≡ zero-itself → ⊥
+unfolding is-sheet
+never-zero e = subst is-sheet e tt
+
+pub never-refused : {s : Sheet} {k : ℕ} → sheet s ≡ refused k → ⊥
+unfolding is-sheet
+never-refused e = subst is-sheet e tt
+
+pub one-shown : {s r : Sheet} → sheet s ≡ sheet r → s ≡ r
+one-shown e = cc
+
+-- a number that has one sheet has all of them
+pub has-each : (x : Float) (m n : ℕ) (s : Sheet) → sheetOf x m ≡ sheet s → sheetOf x n ≡ sheet (afterTurns (wholeOf (steps binary64 x)) (min n 54))
+has-each x m n s is =
+    let P : Sheet → Type 0 = λ r. sheetOf x n ≡ sheet (afterTurns (wholeOf (steps binary64 x)) (min n 54)) in
+    subst (OfSheet P) is (of-sheet P x m (λ e f g. shows-sheet x n (finds-root x e f g) g))
 
 -- ---- no two answers show the same: what they show can be undone
 

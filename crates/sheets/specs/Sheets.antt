@@ -1,5 +1,5 @@
 -- The lines of a root, and of its turns on paper: RULES, Lines 2 and 6. Definitions only.
-use Prim.Native.Nat.{ℕ, zero, suc, _+_, _%_}
+use Prim.Native.Nat.{ℕ, zero, suc, _%_}
 use mathlib.Core.Path.{_≡_}
 use mathlib.Core.List.{List, [], _∷_, _++_}
 use lib.Ieee.{Float, binary64}
@@ -17,16 +17,13 @@ rootLine (said.root x) = joined (text "root" ∷ number x ∷ text "\n" ∷ [])
 rootLine (said.refused k) = joined (text "refused" ∷ count k ∷ text "\n" ∷ [])
 
 -- Lines 6: `turn N PAIR TRIAL DIGIT REMAINDER`, from the sheets before and after
-abbrev pub between : (n : ℕ) (before after : Sheet) → List ℕ
-between n before after = joined (text "turn" ∷ whole n ∷ whole (pairOf before) ∷ whole (trialOf before) ∷ whole (after .digits % 2) ∷ whole (after .remainder) ∷ text "\n" ∷ [])
+abbrev pub turnLine : (n : ℕ) (before after : Sheet) → List ℕ
+turnLine n before after = joined (text "turn" ∷ whole n ∷ whole (pairOf before) ∷ whole (trialOf before) ∷ whole (after .digits % 2) ∷ whole (after .remainder) ∷ text "\n" ∷ [])
 
--- Lines 6: of the root of v * 2 ^ 54, the turn behind the first n, and the first n turns
-abbrev pub turnLine : (v n : ℕ) → List ℕ
-turnLine v n = between (n + 1) (afterTurns v n) (afterTurns v (n + 1))
-
+-- Lines 6: the first n turns, of the root of v * 2 ^ 54
 unfoldable pub turnLines : (v n : ℕ) → List ℕ
 turnLines v zero = []
-turnLines v (suc n) = turnLines v n ++ turnLine v n
+turnLines v (suc n) = turnLines v n ++ turnLine (suc n) (afterTurns v n) (afterTurns v (suc n))
 
 -- Lines 6: `rounded DIGITS ROUNDED`
 abbrev pub roundedLine : Sheet → List ℕ

@@ -6,16 +6,18 @@ use root::Answer;
 use root::Sheet;
 use root::Working;
 ghost use mathlib.Core.Path.{_≡_};
-ghost use Prim.Native.Nat.{_^_, _<_};
+ghost use Prim.Native.Nat.{_^_, _≤_, _<_};
 ghost use lib.Ieee.{binary64};
 ghost use Rattle.exact.specs.Numbers.{steps};
 ghost use Rattle.pieces.specs.Pieces.{putIn, endIn, Put};
 ghost use Rattle.root.specs.Said.{said};
-ghost use Rattle.root.specs.Paper.{wholeOf};
-ghost use Rattle.sheets.specs.Sheets.{Worked, rootLine, turnLine, turnLines, roundedLine, workingLines};
+ghost use Rattle.root.specs.Paper.{wholeOf, afterTurns, shown, sheetOf};
+ghost use Rattle.sheets.specs.Sheets.{Worked, rootLine, turnLine, turnLines, roundedLine, leadingUp, workingLines};
 
-// The turns of a root.
+// The turns of a root, and the weight of the next pair among the pairs to come.
 const TURNS: u64 = 54;
+
+const PAIR: u64 = 0x10_0000_0000_0000;
 
 // `root WORD` or `refused NUMBER`, in out from index at on, as far as out goes. Answers where it ends.
 pub fn put_root(answer: Answer, out: &mut [u8], at: usize) -> usize
@@ -42,12 +44,23 @@ pub fn put_working(x: f64, out: &mut [u8], at: usize) -> usize
     ensures { λ r. ⌜ r ≡ endIn (now (out .entry)) at (workingLines x) ⌝ }
     ensures { λ r. ⌜ now (out .exit) ≡ putIn (now (out .entry)) at (workingLines x) ⌝ }
 {
-    let Working::Sheet(last) = root::sheet_after(x, TURNS) else {
-        return put_root(root::root(x), out, at);
-    };
-    let mut end = turns(x, out, at);
-    end = rounded(last, out, end);
+    let end = leading_up(x, root::sheet_after(x, TURNS), out, at);
     put_root(root::root(x), out, end)
+}
+
+// What stands before the root's line: where x has a last sheet, the turns and the rounding.
+fn leading_up(x: f64, last: Working, out: &mut [u8], at: usize) -> usize
+    requires { ⌜ shown last ≡ sheetOf x 54 ⌝ }
+    ensures { λ r. ⌜ Put (now (out .entry)) at (leadingUp (wholeOf (steps binary64 x)) (shown last)) (now (out .exit)) r ⌝ }
+{
+    match last {
+        Working::Sheet(sheet) => {
+            let end = turns(x, out, at);
+            rounded(sheet, out, end)
+        }
+        Working::Zero => pieces::put(out, at, b""),
+        Working::Refused(_) => pieces::put(out, at, b""),
+    }
 }
 
 // A line for each turn.
@@ -58,26 +71,41 @@ fn turns(x: f64, out: &mut [u8], at: usize) -> usize
     let mut end = pieces::put(out, at, b"");
     let mut n = 0u64;
     while n < TURNS {
-        end = turn(x, n, out, end);
+        end = turn(n + 1, sheet_of(x, n), sheet_of(x, n + 1), out, end);
         n += 1;
     }
     end
 }
 
-// The line of the turn behind the first n.
-fn turn(x: f64, n: u64, out: &mut [u8], at: usize) -> usize
-    requires { ⌜ (n < 54) × Worked x ⌝ }
-    ensures { λ r. ⌜ Put (now (out .entry)) at (turnLine (wholeOf (steps binary64 x)) n) (now (out .exit)) r ⌝ }
+// The sheet of x after n turns. The other cases do not come.
+fn sheet_of(x: f64, n: u64) -> Sheet
+    requires { ⌜ (n ≤ 54) × Worked x ⌝ }
+    ensures { λ r. ⌜ (r .digits < 2 ^ 54) × (r ≡ afterTurns (wholeOf (steps binary64 x)) n) ⌝ }
 {
-    let Working::Sheet(before) = root::sheet_after(x, n) else {
-        return at;
-    };
-    let Working::Sheet(after) = root::sheet_after(x, n + 1) else {
-        return at;
-    };
+    match root::sheet_after(x, n) {
+        Working::Sheet(sheet) => sheet,
+        Working::Zero => nothing(),
+        Working::Refused(_) => nothing(),
+    }
+}
+
+fn nothing() -> Sheet {
+    Sheet {
+        digits: 0,
+        remainder: 0,
+        pairs: 0,
+        left: 0,
+    }
+}
+
+// `turn N PAIR TRIAL DIGIT REMAINDER`.
+fn turn(n: u64, before: Sheet, after: Sheet, out: &mut [u8], at: usize) -> usize
+    requires { ⌜ before .digits < 2 ^ 54 ⌝ }
+    ensures { λ r. ⌜ Put (now (out .entry)) at (turnLine n before after) (now (out .exit)) r ⌝ }
+{
     let mut end = pieces::put(out, at, b"turn");
-    end = text::whole(out, end, n + 1);
-    end = text::whole(out, end, before.pairs / 0x10_0000_0000_0000);
+    end = text::whole(out, end, n);
+    end = text::whole(out, end, before.pairs / PAIR);
     end = text::whole(out, end, before.digits * 4 + 1);
     end = text::whole(out, end, after.digits % 2);
     end = text::whole(out, end, after.remainder);

@@ -8,7 +8,8 @@ use Rattle.card.specs.Fields.{numberAt, problemOf, transferOf}
 use Rattle.lambert.specs.Lambert.{answerTo}
 use Rattle.line.specs.declared.Question.the-variants as question
 use Rattle.outcomes.specs.Outcomes.{outcomeLine, transferLine}
-use Rattle.line.specs.Line.{lineOf, rootLine, turned}
+use Rattle.sheets.specs.Sheets.{rootLine, workingLines}
+use Rattle.line.specs.Line.{lineOf, turned}
 use Rattle.pieces.specs.Pieces.{Put}
 use Rattle.pieces.proofs.Puts.{renamed, wrote, both}
 use borrow.Author.Needs.{needs}
@@ -32,6 +33,10 @@ transfer-of : (bytes : List ℕ) → lineOf question.Transfer bytes ≡ transfer
 unfolding lineOf
 transfer-of bytes = refl
 
+digits-of : (bytes : List ℕ) → lineOf question.Digits bytes ≡ workingLines (numberAt bytes 0)
+unfolding lineOf
+digits-of bytes = refl
+
 -- the line of an answer s to the question p that was read, which is what is asked
 as-asked : {Q A : Type 0} (line : A → List ℕ) (answer : Q → A) {text before after : List ℕ} {at end : ℕ} {p q : Q} {s : A}
     → text ≡ line (answer q) → p ≡ q → s ≡ answer p → Put before at (line s) after end → Put before at text after end
@@ -41,7 +46,7 @@ returns : tie.Need-returns
 returns c =
     let line = c .before .before in
     let answer = line .before .before in
-    rw (answer .before .before .enum-told .given .1) (both (as-asked rootLine rootOf (root-of _) (answer .before .number .ensures) (answer .root .ensures) (line .root-line .ensures)))
+    rw (answer .before .before .enum-told .given .1) (both (as-asked rootLine rootOf (root-of _) (answer .before .number .ensures) (answer .root .ensures) (wrote (line .put-root .ensures))))
 
 returns-2 : tie.Need-returns-2
 returns-2 c =
@@ -60,6 +65,12 @@ returns-4 c =
     let line = c .before .before in
     let read = line .before .before in
     rw (read .before .enum-told4 .given .1) (both (as-asked (λ a. transferLine (answerTo a)) transferOf (transfer-of _) refl (read .transfer .ensures) (line .transfer-line .ensures)))
+
+returns-5 : tie.Need-returns-5
+returns-5 c =
+    let line = c .before .before in
+    let read = line .before .before in
+    rw (read .before .enum-told5 .given .1) (both (as-asked workingLines (λ x. x) (digits-of _) (read .number2 .ensures) refl (wrote (line .put-working .ensures))))
 
 pub line-spec : {M : Type 1} → statement M
 line-spec =
@@ -81,10 +92,15 @@ line-spec =
     (λ c κs. search needs)
     (λ c κs. search needs)
     (λ c. search needs)
+    (λ c κs. search needs)
+    (λ c κs. search needs)
+    (λ c. search needs)
     returns
     (λ c. search needs)
     returns-2
     (λ c. search needs)
     returns-3
     (λ c. search needs)
-    returns-4)
+    returns-4
+    (λ c. search needs)
+    returns-5)

@@ -1,15 +1,15 @@
--- `line::root_line` meets its contract, in either case.
-use Rattle.pieces.proofs.Puts.{puts, last, wrote}
+-- `sheets::put_root` meets its contract, in either case.
+use Rattle.pieces.proofs.Puts.{puts, last, wrote, both}
 use borrow.Author.Needs.{needs}
-use Rattle.line.proofs.root_line.Statement.{statement}
-use Rattle.line.proofs.root_line.Tie as tie
+use Rattle.sheets.proofs.put_root.Statement.{statement}
+use Rattle.sheets.proofs.put_root.Tie as tie
 
 returns : tie.Need-returns
 returns c =
     rw (c .before .before .before .before .before .before .before .before .before .before .before .before .before .before .before .answer .given .1)
-    (puts (wrote (c .before .before .before .before .before .before .before .before .before .before .before .put .ensures))
+    (both (puts (wrote (c .before .before .before .before .before .before .before .before .before .before .before .put .ensures))
     (puts (wrote (c .before .before .before .before .before .before .before .number .ensures))
-    (last (wrote (c .before .before .put2 .ensures)))))
+    (last (wrote (c .before .before .put2 .ensures))))))
 
 returns-2 : tie.Need-returns-2
 returns-2 c =
@@ -19,12 +19,12 @@ returns-2 c =
     let at4 = at3 .before .before .before .before in
     let at5 = at4 .before .before .before .before in
     rw (at5 .answer2 .given .1, ← at3 .number2 .ensures)
-    (puts (wrote (at4 .put3 .ensures))
+    (both (puts (wrote (at4 .put3 .ensures))
     (puts (wrote (at2 .count .ensures))
-    (last (wrote (at1 .put4 .ensures)))))
+    (last (wrote (at1 .put4 .ensures))))))
 
-pub root-line-spec : {M : Type 1} → statement M
-root-line-spec =
+pub put-root-spec : {M : Type 1} → statement M
+put-root-spec =
     tie.close
     (tie.spec
     (λ c. search needs)
