@@ -1,9 +1,9 @@
 -- Laws of the root on paper. A turn keeps the sentence that holds on each sheet (`turn-holds`), so it holds after any number of turns (`after-holds`).
 -- It fixes the sheet (`one-sheet`), and on the last sheet the digits are the whole root (`last-is-root`).
-use mathlib.Core.Path.{_≡_, refl, sym, ap, _∙_, subst}
+use mathlib.Core.Path.{_≡_, refl, sym, ap, _∙_}
 use mathlib.Core.Bool.{Bool, true, false, cond}
 use Prim.Native.Nat.{ℕ, zero, suc, _+_, _-_, _*_, _/_, _%_, _^_, _≤_, _<_}
-use native.Mathlib.Nat.{le-trans, lt-of-le-of-lt, div-le-self, div-div-eq-div-mul, div-one, mul-div-mul-right, mul-comm, mul-assoc}
+use native.Mathlib.Nat.{div-le-self, div-div-eq-div-mul, div-one, mul-div-mul-right, mul-comm, mul-assoc}
 use native.Mathlib.Omega.{arith}
 use lib.Dec.{leb}
 use lib.Pow.{pow-add, pow-pos}

@@ -2,7 +2,7 @@
 -- The root is what the last sheet comes to, on every input (`answers-from-last`). And `shown` is one to one (`shown-once`), so that the contract has one answer.
 use mathlib.Core.Path.{_≡_, refl, sym, ap, _∙_, subst}
 use mathlib.Core.Bool.{Bool, true, false}
-use Prim.Native.Nat.{ℕ, min, _*_, _^_, _≤_, _<_}
+use Prim.Native.Nat.{ℕ, min, _^_, _<_}
 use native.Mathlib.Omega.{arith}
 use lib.Dec.{T}
 use lib.Ieee.{Float, binary64, fits, lt, eq, ofBits, toBits}

@@ -1,5 +1,5 @@
 -- `root::root` meets its contract: each case of the tests is one of the definition, and above zero `root_word` gives the definition's root.
-use mathlib.Core.Path.{_≡_, sym, ap, _∙_, subst}
+use mathlib.Core.Path.{sym, ap, _∙_, subst}
 use native.Mathlib.Omega.{arith}
 use borrow.Author.Needs.{needs}
 use lib.Ieee.{binary64}

@@ -4,7 +4,7 @@ use mathlib.Core.Bool.{true, not}
 use borrow.Author.Needs.{needs}
 use borrow.Author.Tests.{not-true, not-false}
 use lib.Dec.{T}
-use lib.Ieee.{Float, nan, inf, fin, binary64, isNan, toBits}
+use lib.Ieee.{Float, nan, inf, fin, binary64, isNan}
 use lib.Ieee.Bits.{ofBits-toBits}
 use Rattle.exact.specs.Numbers.{isFinite, Number}
 use Rattle.exact.proofs.Basics.{passed}

@@ -1,6 +1,6 @@
 -- `sheets::sheet_of` meets its contract: a number that has a last sheet has all of them, and the digits on each are small.
 use mathlib.Core.Path.{_≡_, sym, ap, _∙_}
-use Prim.Native.Nat.{ℕ, min, _≤_}
+use Prim.Native.Nat.{ℕ, _≤_}
 use native.Mathlib.Nat.{min-eq-left}
 use borrow.Author.Needs.{needs}
 use lib.Ieee.{Float, binary64}

@@ -32,7 +32,7 @@ mul-t8 : tie.Need-mul-t8
 mul-t8 c = let p = c .before .before .before .before .before .pre .1 .1 in omega (arith, settles c .off, digits-small p, p .small, pairs-small p)
 
 sub-t9 : tie.Need-sub-t9
-sub-t9 c = settles c .off
+sub-t9 c = omega (arith, settles c .off)
 
 returns : tie.Need-returns
 returns c =
