@@ -18,6 +18,10 @@ halfOf u = (size u + 967) / 2
 unfoldable pub wholeOf : (u : ℕ) → ℕ
 wholeOf u = u * 2 ^ 1020 / 2 ^ (2 * halfOf u)
 
+-- 2: the radicand
+abbrev pub inPairs : (v : ℕ) → ℕ
+inPairs v = v * 2 ^ 54
+
 -- 3: the first sheet
 abbrev pub firstSheet : (v : ℕ) → Sheet
 firstSheet v = record { digits = 0; remainder = 0; pairs = v; left = 54 }
@@ -46,9 +50,9 @@ unfoldable pub afterTurns : (v n : ℕ) → Sheet
 afterTurns v zero = firstSheet v
 afterTurns v (suc n) = turned (afterTurns v n)
 
--- 5: the part of the radicand, v * 2 ^ 54, that was brought down, and the sentence that holds on each sheet
+-- 5: the part of the radicand that was brought down, and the sentence that holds on each sheet
 abbrev pub broughtDown : (v left : ℕ) → ℕ
-broughtDown v left = v * 2 ^ 54 / 2 ^ (2 * left)
+broughtDown v left = inPairs v / 2 ^ (2 * left)
 
 pub record OnPaper (v : ℕ) (s : Sheet) : Type 0 where
   pub sum : s .digits * s .digits + s .remainder ≡ broughtDown v (s .left)

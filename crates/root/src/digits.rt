@@ -55,16 +55,16 @@ fn left_after(turns: u64) -> u64
     if turns < PAIRS { PAIRS - turns } else { 0 }
 }
 
-// ---- Before the turns: the number as an even power of two and a whole number
+// ---- Before the turns
 
-// The number is v * 2^54 * 2^(2h), counted in steps and moved up by 1074 digits: an even power of
-// two has a root, so what is left is the root of v * 2^54.
+// The number in steps, moved up by 1074 digits, is v * 2^54 * 2^(2h).
 struct Form {
     v: u64,
     h: u64,
 }
 
-// The form of the number whose word is w. A field of 0 has no leading digit, and counts as 1.
+// The number as an even power of two, whose root is plain, and a whole number v, whose root is left
+// to be found. (A field of 0 has no leading digit, and counts as 1.)
 fn form_of(w: u64) -> Form
     requires { ⌜ (0 < w) × (w < 0x7ff0_0000_0000_0000) ⌝ }
     ensures { λ r. ⌜ InForm (steps binary64 (ofBits binary64 w)) (r .v) (r .h) ⌝ }
@@ -139,10 +139,10 @@ fn settled(trial: u64, standing: u64) -> u64
     if trial <= standing { 1 } else { 0 }
 }
 
-// ---- After the turns: the last digit rounds
+// ---- After the turns
 
-// The word of the root: of its 54 digits a binary64 number keeps 53. No root lies midway, and the
-// digits are never all ones, so the last one alone decides, and nothing is carried beyond the first.
+// The last of the 54 digits rounds the other 53: no root lies midway, so that it alone decides, and
+// the digits are never all ones, so that nothing is carried beyond the first.
 fn rounded(digits: u64, h: u64) -> u64
     requires { ⌜ (digits < 2 ^ 54) × (h ≤ 1532) ⌝ }
     ensures { λ r. ⌜ r ≡ wordFrom h digits ⌝ }
