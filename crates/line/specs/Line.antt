@@ -1,4 +1,4 @@
--- The line of one record: RULES, Lines. Definitions only.
+-- What is written for one record: RULES, Lines. Definitions only.
 use Prim.Native.Nat.{ℕ}
 use mathlib.Core.List.{List}
 use Rattle.root.specs.Root.{rootOf}

@@ -37,7 +37,8 @@ pub fn width(asked: Question) -> usize
     }
 }
 
-// Puts the line of one record into out from index at on, as far as out goes. Answers where it ends.
+// Puts the line of one record, or its lines, into out from index at on, as far as out goes. Answers where
+// it ends.
 pub fn line(asked: Question, s: &[u8], out: &mut [u8], at: usize) -> usize
     ensures { λ r. ⌜ r ≡ endIn (now (out .entry)) at (line.lineOf asked (now (s .entry))) ⌝ }
     ensures { λ r. ⌜ now (out .exit) ≡ putIn (now (out .entry)) at (line.lineOf asked (now (s .entry))) ⌝ }

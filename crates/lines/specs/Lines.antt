@@ -13,7 +13,7 @@ abbrev pub leftOver : List ℕ → List ℕ
 leftOver [] = []
 leftOver (b ∷ bytes) = text "short\n"
 
--- Lines 5: a line for each of n records, then what is left
+-- Lines 5: what is written for each of n records, then what is left
 unfoldable pub linesFrom : Question → (n : ℕ) → List ℕ → List ℕ
 linesFrom asked zero bytes = leftOver bytes
 linesFrom asked (suc n) bytes = lineOf asked (take (widthOf asked) bytes) ++ linesFrom asked n (drop (widthOf asked) bytes)

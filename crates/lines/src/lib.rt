@@ -73,7 +73,7 @@ fn blank() -> [u8; ROOM]
     [0; ROOM]
 }
 
-// A line for each whole record of s, and `short` if there is more.
+// What is written for each whole record of s, and `short` if there is more.
 fn write(asked: Question, s: &[u8], page: &mut [u8]) -> usize
     ensures { λ r. ⌜ Put (now (page .entry)) 0 (linesOf asked (now (s .entry))) (now (page .exit)) r ⌝ }
 {

@@ -47,13 +47,14 @@ above-zero x h b z = positive-is x h .0 (lt-of-neither binary64 x nought h nough
 pub word-between : (x : Float) → Number binary64 x → (isMinus x ≡ false) × (0 < steps binary64 x) → (0 < toBits binary64 x) × (toBits binary64 x < 0x7ff0_0000_0000_0000)
 word-between x h p = positive-word binary64 x h (p .0) (p .1)
 
+pub some-form : (x : Float) → Number binary64 x → (isMinus x ≡ false) × (0 < steps binary64 x) → (v : ℕ) × (h : ℕ) × InForm (steps binary64 x) v h
+some-form x h p = let w = word-between x h p in subst (λ (y : Float). (v : ℕ) × (h : ℕ) × InForm (steps binary64 y) v h) (ofBits-toBits binary64 x (h .0)) (has-form (toBits binary64 x) (w .0) (w .1))
+
 pub shape : (x : Float) → Number binary64 x → (isMinus x ≡ false) × (0 < steps binary64 x) → Shape x (nearestRoot x)
 shape x h p =
-    let w = word-between x h p in
-    let f = has-form (toBits binary64 x) (w .0) (w .1) in
-    let form : InForm (steps binary64 x) (f .0) (f .1) = rw (ofBits-toBits binary64 x (h .0)) at (f .2) in
+    let f = some-form x h p in
     let s = wholeRoot 54 (f .0 * 2 ^ 54) in
-    let a = written x (f .0) (f .1) s form (wholeRoot-is 54 (f .0 * 2 ^ 54) (omega (arith, form .most))) in
+    let a = written x (f .0) (f .1) s (f .2) (wholeRoot-is 54 (f .0 * 2 ^ 54) (omega (arith, f .2 .most))) in
     subst (Shape x) (is-nearestRoot x (ofBits binary64 ((f .1 + 1) * 2 ^ 52 + (s + 1) / 2)) (h .0) a) a
 
 -- ---- the sheet, case by case

@@ -1,12 +1,11 @@
 -- The theorems on the sheets of a number. h and v are what the rules say of them (`in-rules-form`), and the sentence holds on each sheet (`holds-on-each`).
--- The root is what the last sheet comes to, on every input (`answers-from-last`). And `shown` is one to one (`shown-once`), so that the contract has one answer.
-use mathlib.Core.Path.{_≡_, refl, sym, ap, _∙_, subst}
+-- The root is what the last sheet comes to, on every input (`answers-from-last`), and its rounded digits are the root in steps (`root-in-steps`). And `shown` is one to one (`shown-once`), so that the contract has one answer.
+use mathlib.Core.Path.{_≡_, refl, sym, ap, ap₂, _∙_, subst}
 use mathlib.Core.Bool.{Bool, true, false}
-use Prim.Native.Nat.{ℕ, min, _^_, _<_}
+use Prim.Native.Nat.{ℕ, min, _+_, _*_, _^_, _<_}
 use native.Mathlib.Omega.{arith}
 use lib.Dec.{T}
-use lib.Ieee.{Float, binary64, fits, lt, eq, ofBits, toBits}
-use lib.Ieee.Bits.{ofBits-toBits}
+use lib.Ieee.{Float, binary64, fits, lt, eq, ofBits}
 use Rattle.coincidence.specs.Coincidence.{OneToOne}
 use Rattle.coincidence.proofs.Laws.{undone}
 use Rattle.exact.specs.Numbers.{nought, isFinite, Number, steps}
@@ -16,12 +15,14 @@ use Rattle.root.specs.declared.Working.{Working}
 use Rattle.root.specs.declared.Working.the-variants as working
 use Rattle.root.specs.Said as said
 use Rattle.root.specs.Form.{InForm}
+use Rattle.root.specs.Whole.{IsWholeRoot}
 use Rattle.root.specs.Root.{nearestRoot, rootOf}
-use Rattle.root.specs.Paper.{halfOf, wholeOf, afterTurns, OnPaper, wordFrom, Shown, sheet, zero-itself, refused, shown, sheetOf, rootFrom}
-use Rattle.root.proofs.Form.{has-form, half-is, whole-is}
+use Rattle.root.specs.Paper.{halfOf, wholeOf, afterTurns, OnPaper, roundedOf, wordFrom, Shown, sheet, zero-itself, refused, shown, sheetOf, rootFrom}
+use Rattle.root.proofs.Whole.{whole-root-unique}
+use Rattle.root.proofs.Form.{half-is, whole-is}
 use Rattle.root.proofs.Shape.{written, is-nearestRoot}
 use Rattle.root.proofs.Paper.{left-after, after-holds, last-is-root}
-use Rattle.root.proofs.Cases.{refuses-not-finite, refuses-below-zero, keeps-zero, finds-root, above-zero, word-between, shows-sheet, shows-zero, shows-refused}
+use Rattle.root.proofs.Cases.{refuses-not-finite, refuses-below-zero, keeps-zero, finds-root, above-zero, some-form, shape, shows-sheet, shows-zero, shows-refused}
 use Rattle.root.proofs.Theorems.{reasonFrom, reason-is}
 
 -- ---- a number above zero
@@ -33,19 +34,26 @@ module _ (x : Float) (h : T (fits binary64 x)) (finite : isFinite x ≡ true) (b
   -- The root on paper 1: the division leaves nothing over, and v has 53 or 54 digits
   pub in-rules-form : InForm (steps binary64 x) (wholeOf (steps binary64 x)) (halfOf (steps binary64 x))
   in-rules-form =
-      let w = word-between x number (above-zero x number below zero) in
-      let f = has-form (toBits binary64 x) (w .0) (w .1) in
-      let form : InForm (steps binary64 x) (f .0) (f .1) = rw (ofBits-toBits binary64 x h) at (f .2) in
-      rw (← whole-is (steps binary64 x) (f .0) (f .1) form, ← half-is (steps binary64 x) (f .0) (f .1) form) form
+      let f = some-form x number (above-zero x number below zero) in
+      rw (← whole-is (steps binary64 x) (f .0) (f .1) (f .2), ← half-is (steps binary64 x) (f .0) (f .1) (f .2)) (f .2)
 
   room : wholeOf (steps binary64 x) < 2 ^ 54
   room = omega (arith, in-rules-form .most)
 
+  -- the digits of the last sheet are the whole root
+  last-whole : IsWholeRoot (wholeOf (steps binary64 x) * 2 ^ 54) (afterTurns (wholeOf (steps binary64 x)) 54 .digits)
+  last-whole = let v = wholeOf (steps binary64 x) in last-is-root (afterTurns v 54) (after-holds v 54 room (omega arith)) (left-after v 54)
+
   last : nearestRoot x ≡ ofBits binary64 (wordFrom (halfOf (steps binary64 x)) (afterTurns (wholeOf (steps binary64 x)) 54 .digits))
-  last =
-      let v = wholeOf (steps binary64 x) in
-      let s = afterTurns v 54 in
-      sym (is-nearestRoot x _ h (written x v (halfOf (steps binary64 x)) (s .digits) in-rules-form (last-is-root s (after-holds v 54 room (omega arith)) (left-after v 54))))
+  last = let u = steps binary64 x in sym (is-nearestRoot x _ h (written x (wholeOf u) (halfOf u) (afterTurns (wholeOf u) 54 .digits) in-rules-form last-whole))
+
+  -- The root on paper 6: the rounded digits, times 2 ^ (h + 1), are the root in steps
+  pub root-in-steps : steps binary64 (nearestRoot x) ≡ roundedOf (afterTurns (wholeOf (steps binary64 x)) 54 .digits) * 2 ^ (halfOf (steps binary64 x) + 1)
+  root-in-steps =
+      let u = steps binary64 x in
+      let a = shape x number (above-zero x number below zero) in
+      let whole : IsWholeRoot (wholeOf u * 2 ^ 54) (a .s) = subst (λ (v : ℕ). IsWholeRoot (v * 2 ^ 54) (a .s)) (whole-is u (a .v) (a .h) (a .form)) (a .whole) in
+      a .is ∙ ap₂ (λ (s h : ℕ). roundedOf s * 2 ^ (h + 1)) (whole-root-unique whole last-whole) (half-is u (a .v) (a .h) (a .form))
 
 -- ---- every number
 

@@ -1,5 +1,5 @@
 -- Laws of the whole root. A larger number has a larger square, so a number has one whole root, and digit by digit or with digits to spare it is the same one.
--- The last laws are on the root that `whole_root` takes, that of v * 2 ^ 54: it has 54 digits, they are not all ones, and the last is 0 where the root is exact.
+-- The last laws are on the root that is worked by turns, that of v * 2 ^ 54: it has 54 digits, they are not all ones, and the last is 0 where the root is exact.
 use mathlib.Core.Path.{_≡_, refl, ap, _∙_}
 use mathlib.Core.Bool.{Bool, true, false, cond}
 use mathlib.Core.Logic.{⊎-elim}

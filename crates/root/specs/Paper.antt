@@ -18,7 +18,7 @@ halfOf u = (size u + 967) / 2
 unfoldable pub wholeOf : (u : ℕ) → ℕ
 wholeOf u = u * 2 ^ 1020 / 2 ^ (2 * halfOf u)
 
--- 2: the radicand
+-- 2: the radicand; times 2 ^ (2h) it is the root's own, of u * 2 ^ 1074 (InForm)
 abbrev pub inPairs : (v : ℕ) → ℕ
 inPairs v = v * 2 ^ 54
 
@@ -87,7 +87,7 @@ shownFor (said.refused k) x n = refused k
 unfoldable pub sheetOf : Float → ℕ → Shown
 sheetOf x n = shownFor (rootOf x) x n
 
--- 6: the root that a sheet, if it is the last one, comes to
+-- 6 and 7: the root that a sheet comes to, if it is the last one, and what has none
 abbrev pub rootFrom : Float → Shown → said.Said
 rootFrom x (sheet s) = said.root (ofBits binary64 (wordFrom (halfOf (steps binary64 x)) (s .digits)))
 rootFrom x zero-itself = said.root x

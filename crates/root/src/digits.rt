@@ -16,6 +16,7 @@
 //
 // The digits are 1101, which is 13, the remainder is 4, and 13 * 13 + 4 is 173.
 use crate::Sheet;
+use crate::TURNS;
 ghost use mathlib.Core.Path.{_≡_};
 ghost use Prim.Native.Nat.{ℕ, min, _+_, _-_, _*_, _^_, _≤_, _<_};
 ghost use lib.Ieee.{ofBits, binary64};
@@ -26,9 +27,6 @@ ghost use Rattle.root.specs.Root.{nearestRoot};
 
 // The weight of the exponent's field in a word, and of the next pair among the pairs to come.
 const FIELD: u64 = 0x10_0000_0000_0000;
-
-// The pairs of the radicand: as many as the root has digits, one more than are kept.
-const PAIRS: u64 = 54;
 
 // The word of the root of the number whose word is w.
 pub(crate) fn root_word(w: u64) -> u64
@@ -52,7 +50,7 @@ pub(crate) fn sheet_of(w: u64, turns: u64) -> Sheet
 fn left_after(turns: u64) -> u64
     ensures { λ r. ⌜ r ≡ 54 - turns ⌝ }
 {
-    if turns < PAIRS { PAIRS - turns } else { 0 }
+    if turns < TURNS { TURNS - turns } else { 0 }
 }
 
 // ---- Before the turns
@@ -105,7 +103,7 @@ fn worked(v: u64, left: u64) -> Sheet
         digits: 0,
         remainder: 0,
         pairs: v,
-        left: PAIRS,
+        left: TURNS,
     };
     while left < sheet.left {
         sheet = turn(sheet);

@@ -34,6 +34,9 @@ pub enum Answer {
     Refused(Reason),
 }
 
+// The turns of a root: as many as it has digits, one more than are kept.
+pub const TURNS: u64 = 54;
+
 // A sheet of the root on paper: the digits that are settled, the remainder, the pairs of binary
 // digits still to come, and how many these are. `pairs` has the next 27 of them, the first one
 // highest; zeros follow.

@@ -14,9 +14,7 @@ ghost use Rattle.root.specs.Said.{said};
 ghost use Rattle.root.specs.Paper.{wholeOf, afterTurns, shown, sheetOf};
 ghost use Rattle.sheets.specs.Sheets.{Worked, rootLine, turnLine, turnLines, roundedLine, leadingUp, workingLines};
 
-// The turns of a root, and the weight of the next pair among the pairs to come.
-const TURNS: u64 = 54;
-
+// The weight of the next pair among the pairs to come.
 const PAIR: u64 = 0x10_0000_0000_0000;
 
 // `root WORD` or `refused NUMBER`, in out from index at on, as far as out goes. Answers where it ends.
@@ -44,7 +42,7 @@ pub fn put_working(x: f64, out: &mut [u8], at: usize) -> usize
     ensures { λ r. ⌜ r ≡ endIn (now (out .entry)) at (workingLines x) ⌝ }
     ensures { λ r. ⌜ now (out .exit) ≡ putIn (now (out .entry)) at (workingLines x) ⌝ }
 {
-    let end = leading_up(x, root::sheet_after(x, TURNS), out, at);
+    let end = leading_up(x, root::sheet_after(x, root::TURNS), out, at);
     put_root(root::root(x), out, end)
 }
 
@@ -70,7 +68,7 @@ fn turns(x: f64, out: &mut [u8], at: usize) -> usize
 {
     let mut end = pieces::put(out, at, b"");
     let mut n = 0u64;
-    while n < TURNS {
+    while n < root::TURNS {
         end = turn(n + 1, sheet_of(x, n), sheet_of(x, n + 1), out, end);
         n += 1;
     }
