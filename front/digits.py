@@ -3,6 +3,7 @@
 The numbers are those of the proved program `root_digits`. Its lines are shown only when they are the
 whole working of one number. What is shown for 2, without the turns between:
 
+    number 4000000000000000 2
     turn  pair              trial  digit         remainder
        1    10                  1      1                 1
        2    00                  5      0                 4
@@ -13,7 +14,7 @@ whole working of one number. What is shown for 2, without the turns between:
 
 from __future__ import annotations
 
-from front import answers, built, kit, streams
+from front import answers, built, kit, streams, words
 
 PROGRAM = "root_digits"
 TURNS = 54
@@ -34,30 +35,36 @@ def run(texts: list[str]) -> int:
     program = built.ready(PROGRAM)
     text = kit.output_of(program, record)
     try:
-        rows = shown(text)
+        rows = shown(record, text)
     except ValueError:
         raise kit.failed(program) from None
     answers.show("digits", rows)
     return 1 if answers.others(text) else 0
 
 
-def shown(text: bytes) -> list[str]:
-    """The rows for what the program printed; ValueError where that is not whole."""
+def shown(record: bytes, text: bytes) -> list[str]:
+    """The rows for what the program printed for a record; ValueError where that is not whole."""
     *lines, cut = text.decode("ascii").split("\n")
     if cut:
         raise ValueError("the last line is not ended")
-    return rows_of(lines)
+    return rows_of(record, lines)
 
 
-def rows_of(lines: list[str]) -> list[str]:
-    """The rows for the lines of one number; ValueError where they are not whole."""
+def rows_of(record: bytes, lines: list[str]) -> list[str]:
+    """The rows for the lines of one number, whose record it is; ValueError where they are not whole."""
     first = lines[0] if len(lines) == 1 else ""
     if first in ZEROS:
         return ["zero is its own root", answers.root_row(first)]
     if first in REFUSALS:
         return [first, answers.reason_row(first.split(" ")[1])]
     *turns, rounded, root = lines
-    return [*table(turns), rounding(rounded), read_root(root)]
+    return [number_row(record), *table(turns), rounding(rounded), read_root(root)]
+
+
+def number_row(record: bytes) -> str:
+    """The word of the number, which says what pairs come, and its decimal."""
+    word = int.from_bytes(record, "little")
+    return f"number {word:016x} {words.decimal(word)}"
 
 
 def table(turns: list[str]) -> list[str]:

@@ -147,7 +147,7 @@ def failed(command: list[str]) -> Stop:
 
 
 def main() -> int:
-    """What `bench/run` asks for."""
+    """What `bench/run` and `bench/root` ask for."""
     try:
         kit = find()
     except Stop as stop:

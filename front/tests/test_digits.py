@@ -22,6 +22,8 @@ def turns(radicand):
     return lines
 
 
+# The record of 2.
+TWO = struct.pack("<d", 2)
 # The lines for 2: u is 2^1075, h 1021 and v 2^53.
 TURNS = turns(1 << 107)
 ROUNDED = "rounded 12738103345051545 6369051672525773"
@@ -30,6 +32,7 @@ LINES = [*TURNS, ROUNDED, ROOT]
 WHOLE = "".join(f"{line}\n" for line in LINES)
 # The rows for 2: the heads and the first four turns, the last turn, and what stands below the table.
 FIRST = """\
+number 4000000000000000 2
 turn  pair              trial  digit         remainder
    1    10                  1      1                 1
    2    00                  5      0                 4
@@ -50,15 +53,15 @@ class Rows(unittest.TestCase):
 
     def refuse(self, text):
         with self.subTest(text), self.assertRaises(ValueError):
-            digits.shown(text.encode("latin-1"))
+            digits.shown(TWO, text.encode("latin-1"))
 
     def test_a_table(self):
-        rows = digits.rows_of(LINES)
-        self.assertEqual("".join(f"{row}\n" for row in rows[:5]), FIRST)
+        rows = digits.rows_of(TWO, LINES)
+        self.assertEqual("".join(f"{row}\n" for row in rows[:6]), FIRST)
         self.assertEqual("".join(f"{row}\n" for row in rows[54:]), LAST)
         self.assertEqual({len(row) for row in rows[:55]}, {len(FIRST.split("\n")[0])})
-        self.assertEqual([row.split()[0] for row in rows[1:55]], [str(turn) for turn in range(1, 55)])
-        self.assertEqual(digits.shown(WHOLE.encode()), rows)
+        self.assertEqual([row.split()[0] for row in rows[2:56]], [str(turn) for turn in range(1, 55)])
+        self.assertEqual(digits.shown(TWO, WHOLE.encode()), rows)
 
     def test_the_digits_of_a_table_are_the_root(self):
         settled = "".join(row.split()[3] for row in digits.table(TURNS)[1:])
@@ -70,15 +73,15 @@ class Rows(unittest.TestCase):
 
     def test_zero(self):
         told = "zero is its own root"
-        self.assertEqual(digits.rows_of(["root 0000000000000000"]), [told, "root 0000000000000000 0"])
-        self.assertEqual(digits.rows_of(["root 8000000000000000"]), [told, "root 8000000000000000 -0"])
+        self.assertEqual(digits.rows_of(TWO, ["root 0000000000000000"]), [told, "root 0000000000000000 0"])
+        self.assertEqual(digits.rows_of(TWO, ["root 8000000000000000"]), [told, "root 8000000000000000 -0"])
 
     def test_refusals(self):
         for line, reason in (
             ("refused 1", "a number given is NaN or infinite"),
             ("refused 13", "the root of a number below zero"),
         ):
-            self.assertEqual(digits.rows_of([line]), [line, f"  reason    {reason}"])
+            self.assertEqual(digits.rows_of(TWO, [line]), [line, f"  reason    {reason}"])
 
     def test_each_cut_is_refused(self):
         for text in (WHOLE, ZERO, "refused 13\n"):
@@ -89,14 +92,18 @@ class Rows(unittest.TestCase):
         for place in range(len(LINES)):
             for times in (0, 2):
                 with self.subTest(place=place, times=times), self.assertRaises(ValueError):
-                    digits.rows_of(LINES[:place] + LINES[place : place + 1] * times + LINES[place + 1 :])
+                    digits.rows_of(TWO, LINES[:place] + LINES[place : place + 1] * times + LINES[place + 1 :])
+
+    def test_one_more_turn_is_refused(self):
+        with self.assertRaises(ValueError):
+            digits.rows_of(TWO, [*TURNS, TURNS[-1].replace("turn 54", "turn 55"), ROUNDED, ROOT])
 
     def test_another_order_is_refused(self):
         for place in range(len(LINES) - 1):
             lines = LINES[:]
             lines[place : place + 2] = lines[place + 1], lines[place]
             with self.subTest(place), self.assertRaises(ValueError):
-                digits.rows_of(lines)
+                digits.rows_of(TWO, lines)
 
     def test_what_follows_is_refused(self):
         for text in (WHOLE, ZERO, "refused 1\n"):
@@ -131,7 +138,7 @@ class Digits(Stand):
         self.prints["root_digits"] = WHOLE
 
     def test_a_table(self):
-        printed = "".join(f"{row}\n" for row in digits.rows_of(LINES))
+        printed = "".join(f"{row}\n" for row in digits.rows_of(TWO, LINES))
         for text in ("2", "0x4000000000000000"):
             with self.subTest(text):
                 self.written[1] = ""

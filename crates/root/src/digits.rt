@@ -14,7 +14,7 @@
 //        3     11            111    1101       0         111
 //        4     01          11101   11001       1         100
 //
-// The digits are 1101, which is 13, the remainder is 4, and 13 * 13 + 4 is 173.
+// The digits are 1101, which is 13, and the remainder is 100, which is 4: 13 * 13 + 4 = 173.
 use crate::Sheet;
 use crate::TURNS;
 ghost use mathlib.Core.Path.{_≡_};

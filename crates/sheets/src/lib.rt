@@ -61,7 +61,7 @@ fn leading_up(x: f64, last: Working, out: &mut [u8], at: usize) -> usize
     }
 }
 
-// A line for each turn.
+// A line for each turn. Each sheet is worked from the first turn on, which is quick enough for a page.
 fn turns(x: f64, out: &mut [u8], at: usize) -> usize
     requires { ⌜ Worked x ⌝ }
     ensures { λ r. ⌜ Put (now (out .entry)) at (turnLines (wholeOf (steps binary64 x)) 54) (now (out .exit)) r ⌝ }
