@@ -58,8 +58,8 @@ class Rows(unittest.TestCase):
     def test_a_table(self):
         rows = digits.rows_of(TWO, LINES)
         self.assertEqual("".join(f"{row}\n" for row in rows[:6]), FIRST)
-        self.assertEqual("".join(f"{row}\n" for row in rows[54:]), LAST)
-        self.assertEqual({len(row) for row in rows[:55]}, {len(FIRST.split("\n")[0])})
+        self.assertEqual("".join(f"{row}\n" for row in rows[55:]), LAST)
+        self.assertEqual({len(row) for row in rows[1:56]}, {len(FIRST.split("\n")[1])})
         self.assertEqual([row.split()[0] for row in rows[2:56]], [str(turn) for turn in range(1, 55)])
         self.assertEqual(digits.shown(TWO, WHOLE.encode()), rows)
 
