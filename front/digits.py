@@ -1,6 +1,6 @@
 """`digits`: a root digit by digit, as docs/RULES.md, "The root on paper", finds it.
 
-The numbers are those of the proved program `root_digits`. Its lines are shown only when they are the
+The numbers of the table and below it are those of the proved program `root_digits`. Its lines are shown only when they are the
 whole working of one number. What is shown for 2, without the turns between:
 
     number 4000000000000000 2
@@ -51,7 +51,7 @@ def shown(record: bytes, text: bytes) -> list[str]:
 
 
 def rows_of(record: bytes, lines: list[str]) -> list[str]:
-    """The rows for the lines of one number, whose record it is; ValueError where they are not whole."""
+    """The rows for the lines of the number in a record; ValueError where they are not whole."""
     first = lines[0] if len(lines) == 1 else ""
     if first in ZEROS:
         return ["zero is its own root", answers.root_row(first)]

@@ -41,11 +41,12 @@ arrival too: the state to which predict comes from R1 with this velocity after D
 is from R2, in three digits; or why predict refuses it. predict gets 100 as its limit, whatever
 LIMIT is. The status is that of the transfer.
 
-digits prints the work on paper that docs/ROOT.md teaches as a table, and only when it is whole: above
-it the NUMBER's word and its decimal value; for each of the 54 turns the pair of binary digits that is brought down, the trial, the digit of the
-root, which is 1 where the trial is taken off, and the remainder. Then the number that the 54 digits
-make, and the one that they make rounded to 53; then the line that root prints. Zero has no table:
-it is its own root. Where NUMBER is refused, the program's line, and below it the reason in words.
+digits prints the work on paper that docs/ROOT.md teaches as a table, and only when it is whole.
+Above it stand the NUMBER's word and its decimal value; then, for each of the 54 turns, the pair of
+binary digits that is brought down, the trial, the digit of the root, which is 1 where the trial is
+taken off, and the remainder. Then the number that the 54 digits make, and the one that they make
+rounded to 53; then the line that root prints. Zero has no table: it is its own root. Where NUMBER
+is refused, the program's line, and below it the reason in words.
 
 Inputs for '-' are little-endian: the words in the order above, then LIMIT in 4 bytes, and for
 transfer the way in 4 bytes, 0 for short and 1 for long; as many as come. The lines are the

@@ -1,8 +1,8 @@
 // What is written for one record by `predict`, `turn`, `transfer`, `roots` and `root_digits`: a line, or
 // for the last the lines of a root's turns. docs/RULES.md, Lines.
 //
-// A record is what one question takes: eight bytes for a root or its turns, 68 for Kepler, 64 for Theta, 72 for a
-// transfer. Every function here is proved and total, and the crate assumes nothing.
+// A record is what one question takes: eight bytes for a root or its turns, 68 for Kepler, 64 for
+// Theta, 72 for a transfer. Every function here is proved and total, and the crate assumes nothing.
 use card::Asked;
 use conic::Outcome;
 use conic::Problem;

@@ -1,5 +1,5 @@
 -- The theorems on the sheets of a number. h and v are what the rules say of them (`in-rules-form`), and the sentence holds on each sheet (`holds-on-each`).
--- The root is what the last sheet comes to, on every input (`answers-from-last`), and its rounded digits are the root in steps (`root-in-steps`). And `shown` is one to one (`shown-once`), so that the contract has one answer.
+-- The root is what the last sheet comes to, on every input (`answers-from-last`), and its rounded digits, moved up by h + 1, are the root in steps (`root-in-steps`). And `shown` is one to one (`shown-once`), so that the contract has one answer.
 use mathlib.Core.Path.{_≡_, refl, sym, ap, ap₂, _∙_, subst}
 use mathlib.Core.Bool.{Bool, true, false}
 use Prim.Native.Nat.{ℕ, min, _+_, _*_, _^_, _<_}

@@ -18,7 +18,7 @@ halfOf u = (size u + 967) / 2
 unfoldable pub wholeOf : (u : ℕ) → ℕ
 wholeOf u = u * 2 ^ 1020 / 2 ^ (2 * halfOf u)
 
--- 2: the radicand; times 2 ^ (2h) it is the root's own, of u * 2 ^ 1074 (InForm)
+-- 2: the radicand on paper (times 2 ^ (2h) it is the `radicand` of Root, which is in steps)
 abbrev pub inPairs : (v : ℕ) → ℕ
 inPairs v = v * 2 ^ 54
 

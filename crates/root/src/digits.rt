@@ -139,8 +139,9 @@ fn settled(trial: u64, standing: u64) -> u64
 
 // ---- After the turns
 
-// The last of the 54 digits rounds the other 53: no root lies midway, so that it alone decides, and
-// the digits are never all ones, so that nothing is carried beyond the first.
+// The word of the root, the exponent before its digits, of which the last one rounds the other 53: it
+// alone decides, since no root lies midway, and nothing is carried beyond the first digit, since they
+// are never all ones.
 fn rounded(digits: u64, h: u64) -> u64
     requires { ⌜ (digits < 2 ^ 54) × (h ≤ 1532) ⌝ }
     ensures { λ r. ⌜ r ≡ wordFrom h digits ⌝ }
