@@ -1,17 +1,18 @@
--- Sums, differences and quotients of finite numbers in signs and steps: each is one rounding of the exact result over whole numbers.
+-- Sums, differences, products and quotients of finite numbers in signs and steps: each is one rounding of the exact result over whole numbers.
 use mathlib.Core.Path.{_≡_, refl, sym, ap, ap₂, _∙_, subst}
 use mathlib.Core.Bool.{Bool, true, false, not, cond, _&&_, Bool·beq}
 use Prim.Native.Nat.{ℕ, zero, suc, _+_, _-_, _*_, _^_, _≤_, _<_}
-use native.Mathlib.Nat.{mul-assoc, mul-right-comm, mul-pos, eq-of-mul-eq-mul-right, lt-irrefl}
+use native.Mathlib.Nat.{mul-assoc, mul-right-comm, mul-mul-mul-comm, mul-pos, eq-of-mul-eq-mul-right, lt-irrefl}
 use native.Mathlib.Omega.{arith}
 use borrow.Author.Tests.{le-ltb}
 use lib.Dec.{T, ltb, eqb, ltb→lt, nltb→le, eqb·suc-zero}
 use lib.Pow.{pow-pos}
-use lib.Ieee.{Float, nan, inf, fin, Format, low, up, down, unlike, round, neg, sum, add, sub, div}
+use lib.Ieee.{Float, nan, inf, fin, Format, low, up, down, unlike, round, neg, sum, add, sub, mul, div}
 use lib.Ieee.Fits.{neg-fits}
 use lib.Ieee.Positive.{first-pos}
 use lib.Ieee.Scale.{round-same}
 use Rattle.exact.specs.Numbers.{Number, isMinus, magnitude, steps, distance, gap}
+use Rattle.exact.proofs.Steps.{in-steps}
 use Rattle.exact.proofs.Rounding.{round-magnitude}
 use Rattle.exact.proofs.Fractions.{scaled-ltb, sums, differences, left, right, denominators-pos}
 
@@ -96,6 +97,21 @@ sub-magnitude f x y h k =
     turned false true a b = refl
     turned true false a b = refl
     turned true true a b = refl
+
+-- ---- the product
+
+pub mul-steps : (f : Format) (x y : Float) → Number f x → Number f y → mul f x y ≡ round f (unlike (isMinus x) (isMinus y)) (steps f x * steps f y) (2 ^ low f * 2 ^ low f)
+unfolding mul
+mul-steps f nan y h k = absurd (h .1)
+mul-steps f (inf s) y h k = absurd (h .1)
+mul-steps f (fin s m e) nan h k = absurd (k .1)
+mul-steps f (fin s m e) (inf t) h k = absurd (k .1)
+mul-steps f (fin s m e) (fin t n d) h k =
+    let a = steps f (fin s m e) in
+    let b = steps f (fin t n d) in
+    let L = 2 ^ low f in
+    round-same f (unlike s t) (m * up e * (n * up d)) (down e * down d) (a * b) (L * L) (denominators-pos f s m e t n d h k) (mul-pos (pow-pos (low f)) (pow-pos (low f)))
+    (mul-mul-mul-comm (m * up e) (n * up d) L L ∙ ap₂ (λ (x y : ℕ). x * y) (in-steps f (fin s m e) h .1) (in-steps f (fin t n d) k .1) ∙ mul-mul-mul-comm a (down e) b (down d))
 
 -- ---- the quotient
 

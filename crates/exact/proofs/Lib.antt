@@ -7,6 +7,7 @@ pub mod Compare
 pub mod Arithmetic
 pub mod Signs
 pub mod Zero
+pub mod Most
 pub mod Words
 pub mod Tolerance
 pub mod Middle

@@ -16,7 +16,8 @@ use Rattle.exact.proofs.Steps.{steps-lt}
 use Rattle.exact.proofs.Rounding.{rounded, rounded-le, round-steps}
 use Rattle.exact.proofs.Order.{along, place, le-place, plus-le}
 use Rattle.exact.proofs.Zero.{nought-number, nought-steps, nought-plus, zero-plus, less-zero}
-use Rattle.exact.proofs.Arithmetic.{sum-unlike, neg-number, add-steps, div-steps}
+use Rattle.exact.proofs.Most.{AtMost, steps-held, div-most}
+use Rattle.exact.proofs.Arithmetic.{sum-unlike, neg-number, add-steps}
 
 -- ---- half of a number
 
@@ -32,28 +33,17 @@ two-steps : 2 ^ low binary64 < steps binary64 two
 unfolding steps ofBits
 two-steps = lit< tt
 
--- y is not minus, and no more than x
-record Within (x y : Float) : Type 0 where
-  number : Number binary64 y
-  plus : isMinus y ≡ false
-  most : steps binary64 y ≤ steps binary64 x
-
-half-within : (x : Float) → Number binary64 x → isMinus x ≡ false → Within x (x ⊘ two)
-half-within x h plus =
-    let d = steps binary64 two in
-    let D : 0 < d = lt-of-le-of-lt zero-le two-steps in
-    let is : x ⊘ two ≡ round binary64 false (steps binary64 x) d = rw (plus, two-plus) at (div-steps binary64 x two h two-number D) in
-    let l : rounded binary64 (steps binary64 x) d ≤ steps binary64 x = rounded-le binary64 (steps binary64 x) d x D (h .0) (mul-le-mul-left (steps binary64 x) (le-of-lt two-steps)) in
-    let v = round-steps binary64 false (steps binary64 x) d (lt-of-le-of-lt l (steps-lt binary64 x (h .0))) in
-    rw is (record { number = (round-fits binary64 false (steps binary64 x) d, v .2); plus = v .1; most = rw (v .0) l })
+-- not minus, and no more than the number
+half-within : (x : Float) → Number binary64 x → isMinus x ≡ false → AtMost (steps binary64 x) (x ⊘ two)
+half-within x h plus = div-most x two (h, plus) (two-number, two-plus) (steps binary64 x) (steps-held x (h .0)) (lt-of-le-of-lt zero-le two-steps) (mul-le-mul-left (steps binary64 x) (le-of-lt two-steps))
 
 -- ---- forwards
 
 pub middle-forwards : (x : Float) → Number binary64 x → isMinus x ≡ false → T (le nought (middle nought x)) × T (le (middle nought x) x)
 middle-forwards x h plus =
     let w = half-within x h plus in
-    let is : middle nought x ≡ x ⊘ two = ap (λ (z : Float). nought ⊕ z ⊘ two) (less-zero x h plus) ∙ zero-plus (x ⊘ two) (w .number) (w .plus) in
-    rw is (plus-le binary64 nought (x ⊘ two) nought-number (w .number) nought-plus (w .plus) .1 (rw nought-steps zero-le), plus-le binary64 (x ⊘ two) x (w .number) h (w .plus) plus .1 (w .most))
+    let is : middle nought x ≡ x ⊘ two = ap (λ (z : Float). nought ⊕ z ⊘ two) (less-zero x h plus) ∙ zero-plus (x ⊘ two) (w .0 .0) (w .0 .1) in
+    rw is (plus-le binary64 nought (x ⊘ two) nought-number (w .0 .0) nought-plus (w .0 .1) .1 (rw nought-steps zero-le), plus-le binary64 (x ⊘ two) x (w .0 .0) h (w .0 .1) plus .1 (w .1))
 
 -- ---- backwards
 
@@ -75,7 +65,7 @@ between o a r true l n = (omega arith, omega arith)
 between o a r false l n = let z = n tt in (omega arith, omega arith)
 
 -- -x and a part y of x: what is left of x, minus unless nothing is left
-module _ (x y : Float) (h : Number binary64 x) (plus : isMinus x ≡ false) (w : Within x y) where
+module _ (x y : Float) (h : Number binary64 x) (plus : isMinus x ≡ false) (w : AtMost (steps binary64 x) y) where
   rest : ℕ
   rest = steps binary64 x - steps binary64 y
 
@@ -89,7 +79,7 @@ module _ (x y : Float) (h : Number binary64 x) (plus : isMinus x ≡ false) (w :
   unfolding rest under unit
   left-over =
       let n = neg-number binary64 x h in
-      add-steps binary64 (neg x) y (n .0) (w .number) ∙ rw (n .1, n .2, plus, w .plus) (sum-unlike binary64 true (steps binary64 x) (steps binary64 y) unit (w .most))
+      add-steps binary64 (neg x) y (n .0) (w .0 .0) ∙ rw (n .1, n .2, plus, w .0 .1) (sum-unlike binary64 true (steps binary64 x) (steps binary64 y) unit (w .1))
 
   -- at most what a number z has, if the rest is
   at-most : (z : Float) → Number binary64 z → rest ≤ steps binary64 z → rounded binary64 rest unit ≤ steps binary64 z

@@ -19,7 +19,7 @@ use lib.Ieee.Order.{drop, kept}
 use lib.Ieee.Scale.{grid, overflow}
 use Rattle.exact.specs.Numbers.{isFinite, Number, magnitude, isMinus, steps, distance}
 use Rattle.exact.proofs.Basics.{not-below}
-use Rattle.exact.proofs.Steps.{moved, steps-of-value, steps-lt, same-number}
+use Rattle.exact.proofs.Steps.{Moved, moved, steps-of-value, steps-lt, same-number}
 
 -- ---- the nearest whole number to a fraction n / u
 
@@ -152,29 +152,42 @@ module _ (f : Format) (n c : ℕ) (h : 0 < c) where
       go true a b = below q j l (a tt)
       go false a b = subst (λ (z : ℕ). off (kept (prec f) n c * 2 ^ k) ≤ off z) (lifted (b tt)) (multiple (q * 2 ^ (j - k)))
 
-pub nothing-nearer : (f : Format) (a c : ℕ) (y : Float) → 0 < c → T (fits f y) → distance (rounded f a c * c) (a * 2 ^ low f) ≤ distance (steps f y * c) (a * 2 ^ low f)
-unfolding rounded k off
-nothing-nearer f a c y h w =
-    let m = moved f y w in
-    subst (λ (z : ℕ). distance (rounded f a c * c) (a * 2 ^ low f) ≤ distance (z * c) (a * 2 ^ low f)) (sym (m .is)) (best f (a * 2 ^ low f) c h (m .significand) (m .places) (m .few))
+-- ---- at a whole number of steps that has no more digits than the format keeps: nothing is nearer, and the order is kept
 
--- ---- at a number of the format: the order is kept, and the number itself is not changed
-
-module _ (f : Format) (a c : ℕ) (y : Float) (h : 0 < c) (w : T (fits f y)) where
+module _ (f : Format) (a c n : ℕ) (h : 0 < c) (m : Moved f n) where
   over : (g z n : ℕ) → n ≤ z → distance g n ≤ distance z n → g ≤ z
   over g z n l d = omega arith
 
   under : (g z n : ℕ) → z ≤ n → distance g n ≤ distance z n → z ≤ g
   under g z n l d = omega arith
 
+  few-nearest : distance (rounded f a c * c) (a * 2 ^ low f) ≤ distance (n * c) (a * 2 ^ low f)
+  unfolding rounded k off
+  few-nearest = subst (λ (z : ℕ). distance (rounded f a c * c) (a * 2 ^ low f) ≤ distance (z * c) (a * 2 ^ low f)) (sym (m .is)) (best f (a * 2 ^ low f) c h (m .significand) (m .places) (m .few))
+
+  pub few-le : a * 2 ^ low f ≤ n * c → rounded f a c ≤ n
+  few-le l = le-of-mul-le-mul-right (over (rounded f a c * c) (n * c) (a * 2 ^ low f) l few-nearest) h
+
+  few-ge : n * c ≤ a * 2 ^ low f → n ≤ rounded f a c
+  few-ge l = le-of-mul-le-mul-right (under (rounded f a c * c) (n * c) (a * 2 ^ low f) l few-nearest) h
+
+  pub few-exact : a * 2 ^ low f ≡ n * c → rounded f a c ≡ n
+  few-exact e = le-antisymm (few-le (le-of-eq e)) (few-ge (le-of-eq (sym e)))
+
+-- ---- so at a number of the format, which is not changed itself
+
+module _ (f : Format) (a c : ℕ) (y : Float) (h : 0 < c) (w : T (fits f y)) where
+  pub nothing-nearer : distance (rounded f a c * c) (a * 2 ^ low f) ≤ distance (steps f y * c) (a * 2 ^ low f)
+  nothing-nearer = few-nearest f a c (steps f y) h (moved f y w)
+
   pub rounded-le : a * 2 ^ low f ≤ steps f y * c → rounded f a c ≤ steps f y
-  rounded-le l = le-of-mul-le-mul-right (over (rounded f a c * c) (steps f y * c) (a * 2 ^ low f) l (nothing-nearer f a c y h w)) h
+  rounded-le l = few-le f a c (steps f y) h (moved f y w) l
 
   pub rounded-ge : steps f y * c ≤ a * 2 ^ low f → steps f y ≤ rounded f a c
-  rounded-ge l = le-of-mul-le-mul-right (under (rounded f a c * c) (steps f y * c) (a * 2 ^ low f) l (nothing-nearer f a c y h w)) h
+  rounded-ge l = few-ge f a c (steps f y) h (moved f y w) l
 
-  pub rounded-exact : a * 2 ^ low f ≡ steps f y * c → rounded f a c ≡ steps f y
-  rounded-exact e = le-antisymm (rounded-le (le-of-eq e)) (rounded-ge (le-of-eq (sym e)))
+  rounded-exact : a * 2 ^ low f ≡ steps f y * c → rounded f a c ≡ steps f y
+  rounded-exact e = few-exact f a c (steps f y) h (moved f y w) e
 
 -- ---- what `round` answers
 

@@ -1,11 +1,12 @@
 -- The signs of sums, products and quotients, NaN and infinities included: `isMinus` is false of a NaN, so "not minus" is "NaN, or the sign
--- bit clear", which sums, products and quotients keep. What is not minus is never below zero, so a sum of squares never is.
+-- bit clear", which sums, products and quotients keep. What is not minus is never below zero, so a sum of squares never is,
+-- and what is above zero is not minus.
 use mathlib.Core.Path.{_≡_, refl, sym, _∙_}
 use mathlib.Core.Bool.{Bool, true, false, cond, true≢false}
 use Prim.Native.Nat.{ℕ, zero, suc, _+_, _*_, zero-le}
 use native.Mathlib.Nat.{le-trans, le-of-eq, zero-mul}
 use borrow.Author.Tests.{le-ltb}
-use lib.Dec.{eqb}
+use lib.Dec.{T, eqb}
 use lib.Ieee.{Float, nan, inf, fin, Format, binary64, up, down, fits, unlike, round, sum, add, mul, div, lt, ofBits}
 use Rattle.exact.specs.Numbers.{nought, Number, magnitude, isMinus, _⊕_, _⊗_}
 use Rattle.exact.proofs.Rounding.{round-minus}
@@ -65,7 +66,7 @@ div-plus f (fin s m a) (fin t n d) e =
     (either (eqb m 0) nan (inf (unlike s t)) refl (alike s t e))
     (round-minus f (unlike s t) (m * up a * down d) (n * up d * down a) ∙ alike s t e)
 
--- ---- what is not minus is not below zero
+-- ---- what is not minus is not below zero, and what is above zero is not minus
 
 pub not-below-zero : (x : Float) → isMinus x ≡ false → lt x nought ≡ false
 unfolding lt ofBits
@@ -73,6 +74,14 @@ not-below-zero nan h = refl
 not-below-zero (inf s) h = h
 not-below-zero (fin true m e) h = absurd (true≢false h)
 not-below-zero (fin false m e) h = le-ltb (m * up e * 1) (0 * down e) (le-trans (le-of-eq (zero-mul (down e))) zero-le)
+
+pub above-zero-plus : (x : Float) → T (lt nought x) → isMinus x ≡ false
+unfolding lt ofBits
+above-zero-plus nan h = refl
+above-zero-plus (inf true) h = absurd h
+above-zero-plus (inf false) h = refl
+above-zero-plus (fin true m e) h = absurd h
+above-zero-plus (fin false m e) h = refl
 
 pub three-squares : (a b c : Float) → isMinus (a ⊗ a ⊕ b ⊗ b ⊕ c ⊗ c) ≡ false
 three-squares a b c = add-plus binary64 (a ⊗ a ⊕ b ⊗ b) (c ⊗ c) (add-plus binary64 (a ⊗ a) (b ⊗ b) (mul-plus binary64 a a refl) (mul-plus binary64 b b refl)) (mul-plus binary64 c c refl)

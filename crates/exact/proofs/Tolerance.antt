@@ -9,12 +9,15 @@ use native.Mathlib.Omega.{arith}
 use lib.Dec.{T}
 use lib.Pow.{pow-pos}
 use lib.Ieee.{Float, nan, inf, fin, binary64, low, fits, neg, add, sub, lt, eq, le, ofBits}
+use lib.Ieee.Fits.{sub-fits}
 use lib.Ieee.Bits.{ofBits-fits}
 use Rattle.exact.specs.Numbers.{_⊖_, numberOf, tolerance, isFinite, Number, magnitude, isNear, isMinus, steps, distance, gap, inSteps, mostGap}
 use Rattle.exact.proofs.Basics.{not-below}
 use Rattle.exact.proofs.Rounding.{rounded, nothing-nearer, rounded-le}
-use Rattle.exact.proofs.Order.{round-le}
+use Rattle.exact.proofs.Order.{plus-le, round-le}
 use Rattle.exact.proofs.Arithmetic.{sub-magnitude}
+use Rattle.exact.proofs.Signs.{magnitude-plus}
+use Rattle.exact.proofs.Most.{AtMost}
 
 -- ---- near numbers are finite
 
@@ -38,7 +41,7 @@ small-finite nan h = absurd h
 small-finite (inf s) h = absurd h
 small-finite (fin s m e) h = tt
 
-pub near-difference : (x y : Float) → T (isNear x y) → T (isFinite (x ⊖ y))
+near-difference : (x y : Float) → T (isNear x y) → T (isFinite (x ⊖ y))
 unfolding isNear
 near-difference x y h = small-finite (x ⊖ y) h
 
@@ -62,6 +65,13 @@ in-steps-pos = pow-pos (1074 - 89)
 tolerance-steps : steps binary64 tolerance ≡ inSteps 36
 unfolding steps ofBits inSteps
 tolerance-steps = refl
+
+-- the difference of near numbers, without its sign, is at most the tolerance
+pub near-most : (x y : Float) → T (isNear x y) → AtMost (inSteps 36) (magnitude (x ⊖ y))
+unfolding isNear
+near-most x y h =
+    let p = magnitude-plus (x ⊖ y) (sub-fits binary64 x y, near-difference x y h) in
+    (p, rw tolerance-steps at (plus-le binary64 (magnitude (x ⊖ y)) tolerance (p .0) tolerance-number (p .1) tolerance-plus .0 h))
 
 next-steps : steps binary64 next ≡ inSteps 36 + (inSteps 89 + inSteps 89)
 unfolding steps ofBits inSteps

@@ -1,19 +1,20 @@
 -- The definition of the root by its cases: not finite, below zero, zero, and above zero, where the number has a shape.
 use mathlib.Core.Path.{_≡_, subst}
-use mathlib.Core.Bool.{true, false}
+use mathlib.Core.Bool.{Bool, true, false, cond, true≢false}
 use Prim.Native.Nat.{ℕ, min, _+_, _*_, _/_, _^_, _<_}
 use native.Mathlib.Omega.{arith}
 use lib.Ieee.{Float, binary64, lt, eq, ofBits, toBits}
 use lib.Ieee.Bits.{ofBits-toBits}
 use Rattle.exact.specs.Numbers.{nought, isFinite, Number, isMinus, steps}
 use Rattle.exact.proofs.Basics.{failed}
+use Rattle.exact.proofs.Rounding.{round-minus}
 use Rattle.exact.proofs.Order.{lt-of-neither}
 use Rattle.exact.proofs.Zero.{nought-number, positive-is}
 use Rattle.exact.proofs.Words.{positive-word}
 use Rattle.root.specs.Said.{root, refused}
 use Rattle.root.specs.Form.{InForm}
 use Rattle.root.specs.Whole.{wholeRoot}
-use Rattle.root.specs.Root.{nearestRoot, rootOf}
+use Rattle.root.specs.Root.{radicand, nearestRoot, rootOf}
 use Rattle.root.specs.Paper as paper
 use Rattle.root.specs.Paper.{wholeOf, afterTurns, sheetOf}
 use Rattle.root.proofs.Whole.{wholeRoot-is}
@@ -36,6 +37,17 @@ module _ (x : Float) (finite : isFinite x ≡ true) where
   pub finds-root : lt x nought ≡ false → eq x nought ≡ false → rootOf x ≡ root (nearestRoot x)
   unfolding rootOf
   finds-root b z = rw (finite, b, z)
+
+-- a root of what is not minus is not minus
+pub root-plus : (x r : Float) → isMinus x ≡ false → rootOf x ≡ root r → isMinus r ≡ false
+unfolding rootOf nearestRoot
+root-plus x r p h = go (isFinite x) (lt x nought) (eq x nought) h
+  where
+    go : (a b c : Bool) → cond a (cond b (refused 13) (cond c (root x) (root (nearestRoot x)))) (refused 1) ≡ root r → isMinus r ≡ false
+    go true true c e = absurd (true≢false cc)
+    go true false true e = let same : x ≡ r = cc in subst (λ (y : Float). isMinus y ≡ false) same p
+    go true false false e = let same : nearestRoot x ≡ r = cc in subst (λ (y : Float). isMinus y ≡ false) same (round-minus binary64 false (2 * wholeRoot 1586 (radicand x) + 1) (2 * 2 ^ 1074))
+    go false b c e = absurd (true≢false cc)
 
 -- ---- above zero
 
