@@ -1,4 +1,4 @@
--- What a transfer that passes the tests is: the limit is allowed, t is a number, the times of both ends are finite and t lies between them, and
+-- What a transfer that passes the tests is: the limit is allowed, t is a number and f4 one without a minus, the times of both ends are finite and t lies between them, and
 -- the bracket is the starting one.
 use mathlib.Core.Path.{_≡_, refl, sym, subst}
 use mathlib.Core.Bool.{Bool, true, false, not, _&&_}
@@ -10,12 +10,14 @@ use lib.Ieee.Fits.{and-l, div-fits}
 use lib.Ieee.Bits.{is-true}
 use Rattle.exact.specs.Numbers.{_⊘_, nought, isFinite, Number}
 use Rattle.exact.proofs.Basics.{passed, both}
+use Rattle.exact.proofs.Signs.{Plus}
 use Rattle.rows.specs.Rows.{Checked, pass, must, onward}
 use Rattle.rows.proofs.Laws.{pass-once, test-passed, rows-passed}
 use Rattle.search.specs.declared.Bracket.{Bracket}
 use Rattle.search.specs.Search.{limitAllowed}
 use Rattle.vectors.specs.Vectors.{allFinite, dot, over}
 use Rattle.units.specs.Units.{givenFinite, radiusOf, unitOf, numbered}
+use Rattle.units.proofs.Positive.{unit-plus}
 use Rattle.arc.specs.declared.Transfer.{Transfer}
 use Rattle.arc.specs.declared.Scaled.{Scaled}
 use Rattle.arc.specs.Arc.{timeAt}
@@ -27,7 +29,7 @@ use Rattle.arc_entry.specs.ArcEntry.{factorOf, scaledBy, scaledFrom, sca
 first-of : (a b c d e f : Bool) → a && b && c && d && e && f ≡ true → T a
 first-of a b c d e f h = and-l a b (and-l (a && b) c (and-l (a && b && c) d (and-l (a && b && c && d) e (and-l (a && b && c && d && e) f (passed h)))))
 
-by-number : (q : Transfer) (r0 m2 f1 f4 : Float) (o : Scaled) → scaledBy q r0 m2 f1 f4 ≡ pass o → Number binary64 (o .t)
+by-number : (q : Transfer) (r0 m2 f1 f4 : Float) (o : Scaled) → scaledBy q r0 m2 f1 f4 ≡ pass o → Number binary64 (o .t) × (o .f4 ≡ f4)
 unfolding scaledBy
 by-number q r0 m2 f1 f4 o h =
     let t = q .dt ⊘ f4 in
@@ -39,15 +41,16 @@ by-number q r0 m2 f1 f4 o h =
     let made : Float → Scaled = λ a. record { t = t; rho = rho; a = a; f1 = f1; f4 = f4; u = u; d = d } in
     let first = test-passed (isFinite t && allFinite u && allFinite e && allFinite d && isFinite rho && isFinite c) 6 (onward (factorOf (q .way) rho c) (λ a. pass (made a))) h in
     let A = rows-passed (factorOf (q .way) rho c) (λ a. pass (made a)) (first .1) in
-    subst (λ (s : Scaled). Number binary64 (s .t)) (pass-once (A .2)) (div-fits binary64 (q .dt) f4, first-of (isFinite t) (allFinite u) (allFinite e) (allFinite d) (isFinite rho) (isFinite c) (first .0))
+    subst (λ (s : Scaled). Number binary64 (s .t) × (s .f4 ≡ f4)) (pass-once (A .2)) ((div-fits binary64 (q .dt) f4, first-of (isFinite t) (allFinite u) (allFinite e) (allFinite d) (isFinite rho) (isFinite c) (first .0)), refl)
 
-scaled-number : (q : Transfer) (o : Scaled) → scaledOf q ≡ pass o → Number binary64 (o .t)
+scaled-number : (q : Transfer) (o : Scaled) → T (lt nought (q .mu)) → scaledOf q ≡ pass o → Number binary64 (o .t) × Plus (o .f4)
 unfolding scaledOf scaledFrom
-scaled-number q o h =
+scaled-number q o above h =
     let R = rows-passed (numbered 5 6 (radiusOf (q .r1))) (λ r0. onward (numbered 5 6 (radiusOf (q .r2))) (λ m2. scaledFrom q r0 m2)) h in
     let M = rows-passed (numbered 5 6 (radiusOf (q .r2))) (λ m2. scaledFrom q (R .0) m2) (R .2) in
     let F = rows-passed (numbered 6 6 (unitOf (q .mu) (R .0))) (λ f. scaledBy q (R .0) (M .0) (f .0) (f .1)) (M .2) in
-    by-number q (R .0) (M .0) (F .0 .0) (F .0 .1) o (F .2)
+    let by = by-number q (R .0) (M .0) (F .0 .0) (F .0 .1) o (F .2) in
+    (by .0, subst Plus (sym (by .1)) (unit-plus (q .mu) (q .r1) (R .0) (F .0) 5 6 6 6 above (R .1) (F .1)))
 
 -- ---- the tests
 
@@ -77,6 +80,7 @@ pub record Entered (q : Transfer) (o : Scaled) (b : Bracket) : Type 0 where
   pub most : q .limit ≤ 100
   pub scaled : scaledOf q ≡ pass o
   pub t-number : Number binary64 (o .t)
+  pub f4-plus : Plus (o .f4)
   pub start : Started o
   pub bracket-is : b ≡ startingBracket o
 
@@ -92,12 +96,14 @@ entered q o b h =
     let range = both (leb 1 (q .limit)) (leb (q .limit) 100) .0 (third .0) in
     let S = rows-passed (scaledOf q) startOf (third .1) in
     let o₀ : Scaled = S .0 in
+    let numbers = scaled-number q o₀ (passed (second .0)) (S .1) in
     let at-end = started o₀ (o, b) (S .2) in
     subst (λ (e : Scaled × Bracket). Entered q (e .0) (e .1)) (sym (at-end .1)) (record {
       least = leb-true 1 (q .limit) (is-true (leb 1 (q .limit)) (range .0));
       most = leb-true (q .limit) 100 (is-true (leb (q .limit) 100) (range .1));
       scaled = S .1;
-      t-number = scaled-number q o₀ (S .1);
+      t-number = numbers .0;
+      f4-plus = numbers .1;
       start = at-end .0;
       bracket-is = refl;
     })

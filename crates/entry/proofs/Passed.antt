@@ -1,5 +1,5 @@
--- What a problem that passes the entry tests is: each row of tests passed, s, alpha, p and t are numbers, and the bracket is the starting
--- one.
+-- What a problem that passes the entry tests is: each row of tests passed, s, alpha, p and t are numbers, f4 is one without a minus, and the
+-- bracket is the starting one.
 use mathlib.Core.Path.{_≡_, refl, sym, subst}
 use mathlib.Core.Bool.{Bool, true, false, cond, not, _&&_}
 use Prim.Native.Nat.{_≤_}
@@ -9,7 +9,8 @@ use lib.Ieee.{Float, binary64, lt, le, neg, fits}
 use lib.Ieee.Fits.{add-fits, sub-fits, div-fits}
 use lib.Ieee.Bits.{is-true}
 use Rattle.exact.specs.Numbers.{_⊕_, _⊖_, _⊗_, _⊘_, nought, two, isFinite, Number}
-use Rattle.exact.proofs.Basics.{both}
+use Rattle.exact.proofs.Basics.{passed, both}
+use Rattle.exact.proofs.Signs.{Plus}
 use Rattle.search.specs.declared.Bracket.{Bracket}
 use Rattle.search.proofs.Hunt.{pointAt}
 use Rattle.vectors.specs.declared.Vector.{Vector}
@@ -18,7 +19,8 @@ use Rattle.conic.specs.declared.Scaled.{Scaled}
 use Rattle.rows.specs.Rows.{Checked, pass, must, onward}
 use Rattle.search.specs.Search.{limitAllowed}
 use Rattle.vectors.specs.Vectors.{allFinite, multiple, dot, over}
-use Rattle.units.specs.Units.{radiusOf, unitOf, numbered}
+use Rattle.units.specs.Units.{givenFinite, radiusOf, unitOf, numbered}
+use Rattle.units.proofs.Positive.{unit-plus}
 use Rattle.conic.specs.TimeAndRatio.{timeAt}
 use Rattle.entry.specs.Entry.{straight, inputsTested, testedBy, scaledBy, scaledOf, farEndOf, startingBracket, bracketedBy, startOf, entryOf}
 use Rattle.rows.proofs.Laws.{pass-once, test-passed, rows-passed}
@@ -30,6 +32,7 @@ pub record Numbers (o : Scaled) : Type 0 where
   pub alpha-number : Number binary64 (o .alpha)
   pub p-number : Number binary64 (o .p)
   pub t-number : Number binary64 (o .t)
+  pub f4-plus : Plus (o .f4)
 
 -- the numbers fit, since each is the result of an operation
 abbrev Fit : Scaled → Type 0
@@ -43,18 +46,18 @@ five a b c d e h =
     let s = both a b .0 (is-true (a && b) (r .0)) in
     (s .0, s .1, r .1, q .1, p .1)
 
-tested-is : (q : Float) (o e : Scaled) → testedBy q o ≡ pass e → Fit o → (o ≡ e) × Numbers o
+tested-is : (q : Float) (o e : Scaled) → testedBy q o ≡ pass e → Fit o → Plus (o .f4) → (o ≡ e) × Numbers o
 unfolding testedBy
-tested-is q o e h f =
+tested-is q o e h f plus =
     let finite = isFinite (o .s) && isFinite q && isFinite (o .alpha) && isFinite (o .p) && isFinite (o .t) in
     let no-line = not (lt (o .p) straight) in
     let first = test-passed finite 6 (must no-line 7 (pass o)) h in
     let each = five (isFinite (o .s)) (isFinite q) (isFinite (o .alpha)) (isFinite (o .p)) (isFinite (o .t)) (first .0) in
-    (pass-once (test-passed no-line 7 (pass o) (first .1) .1), record { s-number = (f .0, each .0); alpha-number = (f .1, each .2); p-number = (f .2, each .3); t-number = (f .3, each .4) })
+    (pass-once (test-passed no-line 7 (pass o) (first .1) .1), record { s-number = (f .0, each .0); alpha-number = (f .1, each .2); p-number = (f .2, each .3); t-number = (f .3, each .4); f4-plus = plus })
 
-scaled-is : (mu : Float) (r v : Vector) (dt : Float) (e : Scaled) → scaledOf mu r v dt ≡ pass e → Numbers e
+scaled-is : (mu : Float) (r v : Vector) (dt : Float) (e : Scaled) → T (lt nought mu) → scaledOf mu r v dt ≡ pass e → Numbers e
 unfolding scaledBy scaledOf
-scaled-is mu r v dt e h =
+scaled-is mu r v dt e above h =
     let R = rows-passed (numbered 5 14 (radiusOf r)) (λ r0. onward (numbered 6 14 (unitOf mu r0)) (λ f. scaledBy r v dt r0 (f .0) (f .1))) h in
     let r0 = R .0 in
     let F = rows-passed (numbered 6 14 (unitOf mu r0)) (λ f. scaledBy r v dt r0 (f .0) (f .1)) (R .2) in
@@ -69,7 +72,7 @@ scaled-is mu r v dt e h =
       sub-fits binary64 two q,
       sub-fits binary64 q (s ⊗ s),
       div-fits binary64 dt f4,
-    ) in
+    ) (unit-plus mu r r0 (F .0) 5 14 6 14 above (R .1) (F .1)) in
     subst Numbers (is .0) (is .1)
 
 -- ---- the entry
@@ -90,6 +93,12 @@ pub record Entered (p : Problem) (o : Scaled) (b : Bracket) : Type 0 where
   pub far-reaches : Reaches o (cond (le nought (o .t)) far (neg far))
   pub bracket-is : b ≡ startingBracket (o .t) (pointAt (timeAt o) (cond (le nought (o .t)) far (neg far)))
 
+above-zero : (mu : Float) (r v : Vector) (last : Float) {good : Unit {0}} → inputsTested mu r v last ≡ pass good → T (lt nought mu)
+unfolding inputsTested
+above-zero mu r v last h =
+    let first = test-passed (givenFinite mu r v last) 1 (must (lt nought mu) 2 (pass tt)) h in
+    passed (test-passed (lt nought mu) 2 (pass tt) (first .1) .0)
+
 bracketed-is : (o : Scaled) (far : Float) (e : Scaled × Bracket) → bracketedBy o far ≡ pass e → Reaches o far × (e ≡ (o, startingBracket (o .t) (pointAt (timeAt o) far)))
 unfolding bracketedBy
 bracketed-is o far e h =
@@ -105,6 +114,7 @@ entered p o b h =
     let in-range = limitAllowed (p .limit) in
     let row = onward (scaledOf (p .mu) (p .r) (p .v) (p .dt)) startOf in
     let inputs = rows-passed (inputsTested (p .mu) (p .r) (p .v) (p .dt)) (λ good. must in-range 3 row) h in
+    let above = above-zero (p .mu) (p .r) (p .v) (p .dt) (inputs .1) in
     let third = test-passed in-range 3 row (inputs .2) in
     let range = both (leb 1 (p .limit)) (leb (p .limit) 100) .0 (third .0) in
     let S = rows-passed (scaledOf (p .mu) (p .r) (p .v) (p .dt)) startOf (third .1) in
@@ -114,7 +124,7 @@ entered p o b h =
     subst (λ (eb : Scaled × Bracket). Entered p (eb .0) (eb .1)) (sym (B .1)) (record {
       inputs = inputs .1;
       scaled = S .1;
-      numbers = scaled-is (p .mu) (p .r) (p .v) (p .dt) e (S .1);
+      numbers = scaled-is (p .mu) (p .r) (p .v) (p .dt) e above (S .1);
       least = leb-true 1 (p .limit) (is-true (leb 1 (p .limit)) (range .0));
       most = leb-true (p .limit) 100 (is-true (leb (p .limit) 100) (range .1));
       far = X .0;

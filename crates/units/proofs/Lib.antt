@@ -1,4 +1,5 @@
 pub mod Rooted
 pub mod Refusals
+pub mod Positive
 pub mod Theorems
 pub mod Fixed
