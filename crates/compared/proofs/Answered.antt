@@ -1,23 +1,25 @@
 -- The tests that the solved cards of both kinds share, both ways: what a card that passes them has, and what passes them (`Passes`). From a fair
--- bracket the exact gap of the times is at most 2^-36 + 2^-89 (`gap-small`), and a gap of at most 2^-36 passes (`near-enough`).
+-- bracket the exact gap of the times is at most 2^-36 + 2^-89 (`gap-small`), and a gap of at most 2^-36 passes (`near-enough`). The residual, in
+-- seconds, has no minus and is at most 2^988 (`residual-most`).
 use mathlib.Core.Path.{_≡_, refl, sym}
 use mathlib.Core.Bool.{Bool, true, _&&_}
 use Prim.Native.Nat.{ℕ, _≤_}
 use lib.Dec.{T}
 use lib.Ieee.{Float, binary64}
 use lib.Ieee.Bits.{is-true}
-use lib.Ieee.Fits.{sub-fits}
-use Rattle.exact.specs.Numbers.{_⊖_, isFinite, Number, magnitude, isNear, gap, inSteps, mostGap}
+use Rattle.exact.specs.Numbers.{isFinite, Number, isNear, gap, inSteps, mostGap}
 use Rattle.exact.proofs.Basics.{passed, both}
-use Rattle.exact.proofs.Signs.{Plus, magnitude-plus}
-use Rattle.exact.proofs.Tolerance.{near-difference, gap-of-near, near-of-gap}
+use Rattle.exact.proofs.Signs.{Plus}
+use Rattle.exact.proofs.Most.{AtMost}
+use Rattle.exact.proofs.Tolerance.{gap-of-near, near-of-gap}
 use Rattle.rows.specs.Rows.{Checked, pass, must, onward}
 use Rattle.rows.proofs.Laws.{pass-once, test-passed, rows-passed, Refuses, passes, must-refuses, onward-refuses}
 use Rattle.search.specs.declared.Bracket.{Bracket}
 use Rattle.search.specs.Search.{within}
 use Rattle.search.proofs.Laws.{within-finite}
 use Rattle.search.proofs.Answers.{Fair}
-use Rattle.compared.specs.Compared.{timedBy, foundBy, answeredBy}
+use Rattle.compared.specs.Compared.{inSeconds, mostResidual, timedBy, foundBy, answeredBy}
+use Rattle.compared.proofs.Seconds.{in-seconds-most}
 
 pub record Passes {A : Type 0} (time : Float → Float) (t : Float) (find : Float → Checked A) (same : A → Bool) (b : Bracket) (x : Float) (found : A) : Type 0 where
   pub x-in : within b x ≡ true
@@ -28,48 +30,48 @@ pub record Passes {A : Type 0} (time : Float → Float) (t : Float) (find : Floa
 
 -- ---- the tests on the times
 
-timed-is : (b : Bracket) (x time t r : Float) → timedBy b x time t ≡ pass r → (within b x ≡ true) × (isFinite time ≡ true) × (isNear time t ≡ true) × (r ≡ magnitude (time ⊖ t))
+timed-is : (b : Bracket) (x time t unit r : Float) → timedBy b x time t unit ≡ pass r → (within b x ≡ true) × (isFinite time ≡ true) × (isNear time t ≡ true) × (r ≡ inSeconds time t unit)
 unfolding timedBy
-timed-is b x time t r h =
-    let answer : Checked Float = pass (magnitude (time ⊖ t)) in
+timed-is b x time t unit r h =
+    let answer : Checked Float = pass (inSeconds time t unit) in
     let first = test-passed (isFinite x && within b x) 20 (must (isFinite time) 6 (must (isNear time t) 21 answer)) h in
     let second = test-passed (isFinite time) 6 (must (isNear time t) 21 answer) (first .1) in
     let third = test-passed (isNear time t) 21 answer (second .1) in
     (is-true (within b x) (both (isFinite x) (within b x) .0 (first .0) .1), second .0, third .0, sym (pass-once (third .1)))
 
 module _ {P : ℕ → Type 0} where
-  timed-refuses : P 20 → P 6 → P 21 → (b : Bracket) (x time t : Float) → Refuses P (timedBy b x time t)
+  timed-refuses : P 20 → P 6 → P 21 → (b : Bracket) (x time t unit : Float) → Refuses P (timedBy b x time t unit)
   unfolding timedBy
-  timed-refuses outside lost off b x time t = must-refuses _ 20 _ outside (must-refuses _ 6 _ lost (must-refuses _ 21 _ off passes))
+  timed-refuses outside lost off b x time t unit = must-refuses _ 20 _ outside (must-refuses _ 6 _ lost (must-refuses _ 21 _ off passes))
 
 -- ---- all of them
 
 module _ {A : Type 0} (time : Float → Float) (t : Float) (find : Float → Checked A) (same : A → Bool) (b : Bracket) (x : Float) where
-  pub answered-is : (r : Float) → answeredBy time t find same b x ≡ pass r → (found : A) × Passes time t find same b x found × (r ≡ magnitude (time x ⊖ t))
+  pub answered-is : (unit r : Float) → answeredBy time t unit find same b x ≡ pass r → (found : A) × Passes time t find same b x found × (r ≡ inSeconds (time x) t unit)
   unfolding foundBy answeredBy
-  answered-is r h =
-      let first = rows-passed (timedBy b x (time x) t) (λ residual. foundBy find same x residual) h in
-      let timely = timed-is b x (time x) t (first .0) (first .1) in
+  answered-is unit r h =
+      let first = rows-passed (timedBy b x (time x) t unit) (λ residual. foundBy find same x residual) h in
+      let timely = timed-is b x (time x) t unit (first .0) (first .1) in
       let second = rows-passed (find x) (λ found. must (same found) 22 (pass (first .0))) (first .2) in
       let third = test-passed (same (second .0)) 22 (pass (first .0)) (second .2) in
       (second .0, record { x-in = timely .0; time-finite = timely .1; near = timely .2; finding = second .1; same-found = third .0 }, rw (← timely .3) (sym (pass-once (third .1))))
 
-  pub answered-refuses : {P : ℕ → Type 0} → P 20 → P 6 → P 21 → P 22 → ((x : Float) → Refuses P (find x)) → Refuses P (answeredBy time t find same b x)
+  pub answered-refuses : {P : ℕ → Type 0} (unit : Float) → P 20 → P 6 → P 21 → P 22 → ((x : Float) → Refuses P (find x)) → Refuses P (answeredBy time t unit find same b x)
   unfolding foundBy answeredBy
-  answered-refuses outside lost off other f = onward-refuses _ _ (timed-refuses outside lost off b x (time x) t) (λ residual. onward-refuses _ _ (f x) (λ found. must-refuses _ 22 _ other passes))
+  answered-refuses unit outside lost off other f = onward-refuses _ _ (timed-refuses outside lost off b x (time x) t unit) (λ residual. onward-refuses _ _ (f x) (λ found. must-refuses _ 22 _ other passes))
 
-  -- the residual is a finite number without a minus
-  pub residual-plus : {found : A} → Passes time t find same b x found → Plus (magnitude (time x ⊖ t))
-  residual-plus p = magnitude-plus (time x ⊖ t) (sub-fits binary64 (time x) t, near-difference (time x) t (passed (p .near)))
+  -- in a unit that is a finite number without a minus, so is the residual, and it is at most 2^988
+  pub residual-most : {found : A} (unit : Float) → Plus unit → Passes time t find same b x found → AtMost mostResidual (inSeconds (time x) t unit)
+  residual-most unit u p = in-seconds-most (time x) t unit (passed (p .near)) u
 
   module _ (f : Fair time t b) where
     -- what lies in the bracket is finite
     pub x-finite : within b x ≡ true → T (isFinite x)
     x-finite w = within-finite b x (f .starts .lo-number) (f .starts .hi-number) w
 
-    pub answered-passes : {found : A} → Passes time t find same b x found → answeredBy time t find same b x ≡ pass (magnitude (time x ⊖ t))
+    pub answered-passes : {found : A} (unit : Float) → Passes time t find same b x found → answeredBy time t unit find same b x ≡ pass (inSeconds (time x) t unit)
     unfolding timedBy foundBy answeredBy must onward
-    answered-passes p =
+    answered-passes unit p =
         let x-good : isFinite x && within b x ≡ true = both (isFinite x) (within b x) .1 (x-finite (p .x-in), passed (p .x-in)) in
         rw (x-good, p .time-finite, p .near, p .finding, p .same-found) refl
 

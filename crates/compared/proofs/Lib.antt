@@ -1,4 +1,5 @@
 pub mod Words
+pub mod Seconds
 pub mod Answered
 pub mod Theorems
 pub mod Fixed

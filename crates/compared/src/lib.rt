@@ -10,7 +10,7 @@ ghost use mathlib.Core.Path.{_≡_};
 ghost use Rattle.compared.specs.Said.{timing};
 ghost use Rattle.compared.specs.Compared.{timedBy, placeAt, sameWords};
 
-// The residual |T - t| of a time that is near; or the number with which the card is rejected.
+// The residual of a time that is near, in seconds; or the number with which the card is rejected.
 pub enum Timed {
     Residual(f64),
     Rejected(u32),
@@ -22,9 +22,10 @@ pub enum Place {
     Second,
 }
 
-// The unknown x, the time there and the wanted one: 20, 6, 21, or the residual.
-pub fn time(b: Bracket, x: f64, time: f64, t: f64) -> Timed
-    ensures { λ r. ⌜ timing r ≡ timedBy b x time t ⌝ }
+// The unknown x, the time there, the wanted one, and their unit: 20, 6, 21, or the residual. The tests
+// read the scaled times; the residual alone is in seconds.
+pub fn time(b: Bracket, x: f64, time: f64, t: f64, unit: f64) -> Timed
+    ensures { λ r. ⌜ timing r ≡ timedBy b x time t unit ⌝ }
 {
     if !(exact::finite(x) & search::contains(b, x)) {
         return Timed::Rejected(Fault::XOutside.number());
@@ -35,7 +36,7 @@ pub fn time(b: Bracket, x: f64, time: f64, t: f64) -> Timed
     if !exact::near(time, t) {
         return Timed::Rejected(Fault::TimeOff.number());
     }
-    Timed::Residual(exact::absolute(time - t))
+    Timed::Residual(exact::absolute(time - t) * unit)
 }
 
 // Whether the three words that stand in a body at this place are those of a.

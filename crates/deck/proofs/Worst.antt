@@ -14,12 +14,14 @@ use Rattle.exact.proofs.Basics.{passed, failed}
 use Rattle.exact.proofs.Steps.{same-number}
 use Rattle.exact.proofs.Order.{plus-le, plus-lt, le-of-not-lt}
 use Rattle.exact.proofs.Signs.{Plus}
+use Rattle.exact.proofs.Most.{AtMost}
 use Rattle.exact.proofs.Zero.{nought-number, nought-steps, nought-plus}
 use Rattle.rows.specs.Rows.{pass}
 use Rattle.card.specs.Fields.{Card}
 use Rattle.ruling.specs.Said.{Said, solved, refused, rejected}
 use Rattle.verdict.specs.Verdict.{verdictOn}
-use Rattle.verdict.proofs.Accepted.{residual-plus}
+use Rattle.compared.specs.Compared.{mostResidual}
+use Rattle.verdict.proofs.Accepted.{residual-most}
 use Rattle.deck.specs.declared.tally.Running.{Running}
 use Rattle.deck.specs.Tally.{nothing, larger, counted, countedAll, known, residualsOf}
 use Rattle.deck.specs.Check.{verdictsOf, judgedOf}
@@ -96,15 +98,18 @@ worst-is-largest verdicts all some m =
 
 -- ---- in a deck
 
--- the residuals of a deck's cards are without a minus
-pub residuals-plus : (cards : List Card) (r : Float) → Among r (verdictsOf cards) → Plus r
-residuals-plus (c ∷ cards) r m = go (verdictOn (c .kind) (c .body)) refl (residuals-plus cards r) m
+-- the residuals of its cards have no minus and are at most 2^988
+cards-most : (cards : List Card) (r : Float) → Among r (verdictsOf cards) → AtMost mostResidual r
+cards-most (c ∷ cards) r m = go (verdictOn (c .kind) (c .body)) refl (cards-most cards r) m
   where
-    go : (v : Said) → verdictOn (c .kind) (c .body) ≡ v → (Among r (verdictsOf cards) → Plus r) → Among r (v ∷ verdictsOf cards) → Plus r
-    go (solved x) e others (inl same) = subst Plus (sym same) (residual-plus (c .kind) (c .body) x e)
+    go : (v : Said) → verdictOn (c .kind) (c .body) ≡ v → (Among r (verdictsOf cards) → AtMost mostResidual r) → Among r (v ∷ verdictsOf cards) → AtMost mostResidual r
+    go (solved x) e others (inl same) = subst (AtMost mostResidual) (sym same) (residual-most (c .kind) (c .body) x e)
     go (solved x) e others (inr m) = others m
     go refused e others m = others m
     go (rejected k) e others m = others m
+
+pub residuals-most : (deck : List ℕ) (room : ℕ) (verdicts : List Said) → judgedOf deck room ≡ pass verdicts → (r : Float) → Among r verdicts → AtMost mostResidual r
+residuals-most deck room verdicts h r m = let a = accepted-means deck room verdicts h in cards-most (a .cards) r (subst (Among r) (a .verdicts-are) m)
 
 -- where a card counts as solved, there is a residual
 some-solved : (n : Running) (verdicts : List Said) → (countedAll n verdicts .solved ≡ n .solved) ⊎ ((r : Float) × Among r verdicts)
@@ -116,10 +121,8 @@ some-solved n (rejected k ∷ verdicts) = some-solved (counted n (rejected k)) v
 
 pub worst-of-a-deck : (deck : List ℕ) (room : ℕ) (verdicts : List Said) (mean worst : Float) → judgedOf deck room ≡ pass verdicts → residualsOf (countedAll nothing verdicts) ≡ known mean worst → IsLargest verdicts worst
 worst-of-a-deck deck room verdicts mean worst h k =
-    let a = accepted-means deck room verdicts h in
-    let n = countedAll nothing verdicts in
-    let w = known-is n mean worst k in
-    let all : (r : Float) → Among r verdicts → Plus r = λ r m. residuals-plus (a .cards) r (subst (Among r) (a .verdicts-are) m) in
+    let w = known-is (countedAll nothing verdicts) mean worst k in
+    let all : (r : Float) → Among r verdicts → Plus r = λ r m. residuals-most deck room verdicts h r m .0 in
     subst (IsLargest verdicts) (w .2) (go (w .0) all (some-solved nothing verdicts))
   where
     go : (countedAll nothing verdicts .solved ≡ 0 → ⊥) → ((r : Float) → Among r verdicts → Plus r) → (countedAll nothing verdicts .solved ≡ 0) ⊎ ((r : Float) × Among r verdicts) → IsLargest verdicts (countedAll nothing verdicts .worst)

@@ -18,7 +18,7 @@ nothing = record { solved = 0; refused = 0; rejected = 0; sum = nought; worst = 
 abbrev pub larger : Float → Float → Float
 larger a b = cond (lt a b) b a
 
--- Tally 1 and 2: a card counts as solved, refused or rejected; one that counts as solved, and no other, has a residual, |T - t|
+-- Tally 1 and 2: a card counts as solved, refused or rejected; one that counts as solved, and no other, has a residual, in seconds
 abbrev pub counted : Running → Said → Running
 counted n (solved residual) = record { solved = n .solved + 1; refused = n .refused; rejected = n .rejected; sum = n .sum ⊕ residual; worst = larger (n .worst) residual }
 counted n refused = record { solved = n .solved; refused = n .refused + 1; rejected = n .rejected; sum = n .sum; worst = n .worst }

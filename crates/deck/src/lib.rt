@@ -29,7 +29,7 @@ pub struct Totals {
     pub rejected: u32,
 }
 
-// Mean and worst of |T - t| over the solved cards; absent, and not zero, where there is none.
+// Mean and worst of the solved cards' residuals, in seconds; absent, and not zero, where there is none.
 pub enum Residuals {
     Absent,
     Known { mean: f64, worst: f64 },

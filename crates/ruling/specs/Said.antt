@@ -16,7 +16,7 @@ faultNumber fault.StateDiffers = 22
 faultNumber fault.WordNotAllowed = 23
 faultNumber fault.NumberDiffers = 24
 
--- Tally 1 and 2: accepted as solved, with the residual |T - t|; accepted as refused; rejected, with a number that is not 0
+-- Tally 1 and 2: accepted as solved, with the residual in seconds; accepted as refused; rejected, with a number that is not 0
 pub data Said : Type 0 where
   solved : (residual : Float) → Said
   refused : Said

@@ -15,7 +15,7 @@ pub enum Fault {
     NumberDiffers,
 }
 
-// A solved card's verdict 0 comes with its residual |T - t|; a refused card has none.
+// A solved card's verdict 0 comes with its residual, in seconds; a refused card has none.
 pub enum Verdict {
     Solved(f64),
     Refused,

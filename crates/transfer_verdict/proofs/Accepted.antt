@@ -6,8 +6,8 @@ use mathlib.Core.List.{List}
 use Prim.Native.Nat.{ℕ, _≤_}
 use lib.Ieee.{Float, binary64, le}
 use lib.Ieee.Bits.{is-true}
-use Rattle.exact.specs.Numbers.{_⊖_, nought, isFinite, magnitude, gap, inSteps, mostGap}
-use Rattle.exact.proofs.Signs.{Plus}
+use Rattle.exact.specs.Numbers.{nought, isFinite, gap, inSteps, mostGap}
+use Rattle.exact.proofs.Most.{AtMost}
 use Rattle.rows.specs.Rows.{pass, onward}
 use Rattle.rows.proofs.Laws.{rows-passed}
 use Rattle.search.specs.declared.Bracket.{Bracket}
@@ -21,8 +21,9 @@ use Rattle.arc_entry.specs.ArcEntry.{thirtySix, entryOf}
 use Rattle.arc_entry.proofs.Passed.{entered}
 use Rattle.arc_entry.proofs.Fair.{fair, in-start-between}
 use Rattle.card.specs.Fields.{transferOf, zOf, positionFrom}
+use Rattle.compared.specs.Compared.{inSeconds, mostResidual}
 use Rattle.compared.proofs.Words.{wordsAt, vectorWords, same-words}
-use Rattle.compared.proofs.Answered.{Passes, answered-is, answered-passes, residual-plus, x-finite, gap-small, near-enough}
+use Rattle.compared.proofs.Answered.{Passes, answered-is, answered-passes, residual-most, x-finite, gap-small, near-enough}
 use Rattle.transfer_verdict.specs.TransferVerdict.{sameVelocity, atZ, transferCard}
 
 -- the words of the body that stand for the velocity
@@ -30,7 +31,7 @@ abbrev pub velocityWords : List ℕ → List ℕ
 velocityWords body = wordsAt body positionFrom
 
 abbrev pub residualOf : List ℕ → Scaled → Float
-residualOf body o = magnitude (timeAt o (zOf body) ⊖ o .t)
+residualOf body o = inSeconds (timeAt o (zOf body)) (o .t) (o .f4)
 
 -- ---- the tests, both ways
 
@@ -46,12 +47,12 @@ transfer-is body r h =
     let E = rows-passed (entryOf (Q .0)) (λ e. atZ body (e .0) (e .1)) (Q .2) in
     let o = E .0 .0 in
     let start = E .0 .1 in
-    let A = answered-is (timeAt o) (o .t) (velocityAt o) (sameVelocity body) start (zOf body) r (E .2) in
+    let A = answered-is (timeAt o) (o .t) (velocityAt o) (sameVelocity body) start (zOf body) (o .f4) r (E .2) in
     (Q .0, o, start, A .0, Q .1, E .1, A .1, A .2)
 
 pub transfer-passes : (body : List ℕ) (q : Transfer) (o : Scaled) (start : Bracket) (v : Vector) → transferOf body ≡ pass q → entryOf q ≡ pass (o, start) → PassesAt body o start v → transferCard body ≡ pass (residualOf body o)
 unfolding transferCard atZ onward
-transfer-passes body q o start v a e p = rw (a, e) (answered-passes (timeAt o) (o .t) (velocityAt o) (sameVelocity body) start (zOf body) (fair q o start (entered q o start e)) p)
+transfer-passes body q o start v a e p = rw (a, e) (answered-passes (timeAt o) (o .t) (velocityAt o) (sameVelocity body) start (zOf body) (fair q o start (entered q o start e)) (o .f4) p)
 
 -- ---- what it means
 
@@ -101,12 +102,13 @@ accepted-means body residual h =
       residual-is = S .7;
     }
 
--- its residual is a finite number without a minus
-pub accepted-plus : (body : List ℕ) (r : Float) → transferCard body ≡ pass r → Plus r
-accepted-plus body r h =
+-- its residual is a finite number without a minus, at most 2^988
+pub accepted-most : (body : List ℕ) (r : Float) → transferCard body ≡ pass r → AtMost mostResidual r
+accepted-most body r h =
     let S = transfer-is body r h in
     let o = S .1 in
-    subst Plus (sym (S .7)) (residual-plus (timeAt o) (o .t) (velocityAt o) (sameVelocity body) (S .2) (zOf body) (S .6))
+    let e = entered (S .0) o (S .2) (S .5) in
+    subst (AtMost mostResidual) (sym (S .7)) (residual-most (timeAt o) (o .t) (velocityAt o) (sameVelocity body) (S .2) (zOf body) (o .f4) (e .f4-plus) (S .6))
 
 -- ---- what always gets it
 

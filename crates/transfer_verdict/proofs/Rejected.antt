@@ -22,7 +22,7 @@ module _ {P : ℕ → Type 0} (e : Eight P) (p20 : P 20) (p21 : P 21) (p22 : P 2
 
   at-z-refuses : (body : List ℕ) (o : Scaled) (b : Bracket) → Refuses P (atZ body o b)
   unfolding atZ
-  at-z-refuses body o b = answered-refuses _ (o .t) _ (sameVelocity body) b (zOf body) p20 (e .p6) p21 p22 (velocity-refuses (e .p6) o)
+  at-z-refuses body o b = answered-refuses _ (o .t) _ (sameVelocity body) b (zOf body) (o .f4) p20 (e .p6) p21 p22 (velocity-refuses (e .p6) o)
 
   pub transfer-refuses : (body : List ℕ) → Refuses P (transferCard body)
   unfolding transferCard

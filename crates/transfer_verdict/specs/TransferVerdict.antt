@@ -18,7 +18,7 @@ sameVelocity body v = sameWords body positionFrom v
 
 -- Verdicts 14 to 18: 20, 6, 21, then 6 for the velocity and 22
 unfoldable pub atZ : List ℕ → Scaled → Bracket → Checked Float
-atZ body o b = answeredBy (timeAt o) (o .t) (velocityAt o) (sameVelocity body) b (zOf body)
+atZ body o b = answeredBy (timeAt o) (o .t) (o .f4) (velocityAt o) (sameVelocity body) b (zOf body)
 
 -- Verdicts 12 and 13: 23 for the way; then the refusal of the card's own transfer, by the tests before the first guess; and the tests above. The
 -- first that holds is the verdict

@@ -50,7 +50,7 @@ fn at_z(body: &[u8], o: Scaled, b: Bracket) -> Verdict
     ensures { λ r. ⌜ said r ≡ asSolved (atZ (now (body .entry)) o b) ⌝ }
 {
     let z = card::number(body, Z);
-    match compared::time(b, z, o.time_at(z), o.t) {
+    match compared::time(b, z, o.time_at(z), o.t, o.f4) {
         Timed::Rejected(number) => Verdict::Rejected(number),
         Timed::Residual(residual) => leaves(body, o, z, residual),
     }

@@ -6,8 +6,8 @@ use mathlib.Core.List.{List}
 use Prim.Native.Nat.{ℕ, _≤_}
 use lib.Ieee.{Float, binary64}
 use lib.Ieee.Bits.{is-true}
-use Rattle.exact.specs.Numbers.{_⊖_, isFinite, magnitude, gap, inSteps, mostGap}
-use Rattle.exact.proofs.Signs.{Plus}
+use Rattle.exact.specs.Numbers.{isFinite, gap, inSteps, mostGap}
+use Rattle.exact.proofs.Most.{AtMost}
 use Rattle.search.specs.declared.Bracket.{Bracket}
 use Rattle.search.specs.Search.{within}
 use Rattle.conic.specs.declared.Scaled.{Scaled}
@@ -15,6 +15,7 @@ use Rattle.rows.specs.Rows.{Checked, pass, refuse}
 use Rattle.conic.specs.TimeAndRatio.{timeAt}
 use Rattle.conic.specs.Unfolding.{stateAt, arrivalAt}
 use Rattle.entry.specs.Entry.{entryOf}
+use Rattle.entry.proofs.Passed.{entered}
 use Rattle.conic.proofs.Arrival.{Arrives}
 use Rattle.kepler.specs.Kepler.{keplerOf}
 use Rattle.card.specs.declared.Kind.{Kind}
@@ -22,13 +23,14 @@ use Rattle.card.specs.declared.Kind.the-variants as kind
 use Rattle.card.specs.Fields.{problemOf, spareOf, xOf, refusalOf, lastSpareOf}
 use Rattle.ruling.specs.Said.{solved, numberIn}
 use Rattle.compared.specs.Said.{asSolved, asRefused}
+use Rattle.compared.specs.Compared.{mostResidual}
 use Rattle.compared.proofs.Theorems.{as-solved}
 use Rattle.compared.proofs.Answered as compared
 use Rattle.transfer_verdict.specs.TransferVerdict.{transferCard}
 use Rattle.transfer_verdict.proofs.Accepted as transfer
 use Rattle.verdict.specs.Verdict.{sameState, solvedCard, isRefusedWith, refusedCard, verdictOn}
 use Rattle.verdict.proofs.StateWords.{stateWords, wordsOf}
-use Rattle.verdict.proofs.Tests.{shared, starts-fair, solved-is, solved-passes, refused-tests}
+use Rattle.verdict.proofs.Tests.{residualOf, shared, starts-fair, solved-is, solved-passes, refused-tests}
 use Rattle.verdict.proofs.Rejected.{zero-accepts}
 
 -- where a row of tests that gives a residual comes to the verdict 0, it gives one
@@ -49,7 +51,7 @@ pub record Accepted (body : List ℕ) (residual : Float) : Type 0 where
   pub gap-small : gap binary64 (timeAt o (xOf body)) (o .t) ≤ mostGap
   pub arrival : Arrives o (xOf body) (stateAt o (xOf body))
   pub state-bits : stateWords body ≡ wordsOf (stateAt o (xOf body))
-  pub residual-is : residual ≡ magnitude (timeAt o (xOf body) ⊖ o .t)
+  pub residual-is : residual ≡ residualOf body o
 
 pub accepted-means : (body : List ℕ) (residual : Float) → verdictOn kind.Solved body ≡ solved residual → Accepted body residual
 unfolding verdictOn
@@ -92,7 +94,7 @@ pub record GoodEnough (body : List ℕ) : Type 0 where
   pub state-bits : stateWords body ≡ wordsOf (stateAt o (xOf body))
   pub gap-small : gap binary64 (timeAt o (xOf body)) (o .t) ≤ inSteps 36
 
-pub good-enough : (body : List ℕ) (g : GoodEnough body) → verdictOn kind.Solved body ≡ solved (magnitude (timeAt (g .o) (xOf body) ⊖ g .o .t))
+pub good-enough : (body : List ℕ) (g : GoodEnough body) → verdictOn kind.Solved body ≡ solved (residualOf body (g .o))
 good-enough body g =
     let o = g .o in
     let x = xOf body in
@@ -133,7 +135,7 @@ refused-means body z = refused-tests body .0 (go (refusedCard body) refl)
     go (pass good) e = e
     go (refuse k) e = absurd (zero-accepts kind.Refused body z k (ap asRefused e))
 
--- ---- the residual that is counted: a finite number without a minus
+-- ---- the residual that is counted: a finite number without a minus, at most 2^988
 
 -- no card of kind refused is accepted as solved
 pub never-solved : (body : List ℕ) (r : Float) → verdictOn kind.Refused body ≡ solved r → ⊥
@@ -144,11 +146,12 @@ never-solved body r h = go (refusedCard body) h
     go (pass good) e = true≢false cc
     go (refuse k) e = true≢false cc
 
-pub residual-plus : (k : Kind) (body : List ℕ) (r : Float) → verdictOn k body ≡ solved r → Plus r
+pub residual-most : (k : Kind) (body : List ℕ) (r : Float) → verdictOn k body ≡ solved r → AtMost mostResidual r
 unfolding verdictOn
-residual-plus kind.Solved body r h =
+residual-most kind.Solved body r h =
     let S = solved-is body r (as-solved (solvedCard body) (pass r) h) in
     let o = S .0 in
-    subst Plus (sym (S .3)) (compared.residual-plus (timeAt o) (o .t) (arrivalAt o) (sameState body) (S .1) (xOf body) (shared body o (S .1) (S .2)))
-residual-plus kind.Refused body r h = absurd (never-solved body r h)
-residual-plus kind.Transfer body r h = transfer.accepted-plus body r (as-solved (transferCard body) (pass r) h)
+    let e = entered (problemOf body) o (S .1) (S .2 .entry) in
+    subst (AtMost mostResidual) (sym (S .3)) (compared.residual-most (timeAt o) (o .t) (arrivalAt o) (sameState body) (S .1) (xOf body) (o .f4) (e .numbers .f4-plus) (shared body o (S .1) (S .2)))
+residual-most kind.Refused body r h = absurd (never-solved body r h)
+residual-most kind.Transfer body r h = transfer.accepted-most body r (as-solved (transferCard body) (pass r) h)

@@ -23,7 +23,7 @@ use Rattle.verdict.specs.Verdict.{sameState, atX, solvedCard, refusedCar
 
 at-x-refuses : (body : List ℕ) (o : Scaled) (b : Bracket) → Refuses Numbered (atX body o b)
 unfolding atX
-at-x-refuses body o b = answered-refuses _ (o .t) _ (sameState body) b (xOf body) tt tt tt tt (arrival-refuses o)
+at-x-refuses body o b = answered-refuses _ (o .t) _ (sameState body) b (xOf body) (o .f4) tt tt tt tt (arrival-refuses o)
 
 solved-refuses : (body : List ℕ) → Refuses Numbered (solvedCard body)
 unfolding solvedCard

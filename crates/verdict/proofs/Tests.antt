@@ -9,7 +9,7 @@ use borrow.Author.Tests.{eqb-true, eq-eqb}
 use lib.Dec.{eqb, eqb→eq}
 use lib.Ieee.{Float}
 use lib.Ieee.Fits.{eq→eqb}
-use Rattle.exact.specs.Numbers.{_⊖_, isFinite, magnitude, isNear}
+use Rattle.exact.specs.Numbers.{isFinite, isNear}
 use Rattle.exact.proofs.Basics.{both}
 use Rattle.search.specs.declared.Bracket.{Bracket}
 use Rattle.search.specs.Search.{within}
@@ -29,6 +29,7 @@ use Rattle.card.specs.declared.Kind.the-variants as kind
 use Rattle.card.specs.Fields.{problemOf, spareOf, xOf, refusalOf, lastSpareOf}
 use Rattle.ruling.specs.Said.{solved}
 use Rattle.compared.specs.Said.{asSolved}
+use Rattle.compared.specs.Compared.{inSeconds}
 use Rattle.compared.proofs.Answered as compared
 use Rattle.compared.proofs.Answered.{answered-is, answered-passes}
 use Rattle.verdict.specs.Verdict.{sameState, atX, solvedCard, isRefusedWith, refusedCard, verdictOn}
@@ -47,7 +48,7 @@ pub record Passes (body : List ℕ) (o : Scaled) (start : Bracket) : Type 0 wher
   pub state-bits : stateWords body ≡ wordsOf (stateAt o (xOf body))
 
 abbrev pub residualOf : List ℕ → Scaled → Float
-residualOf body o = magnitude (timeAt o (xOf body) ⊖ o .t)
+residualOf body o = inSeconds (timeAt o (xOf body)) (o .t) (o .f4)
 
 -- the tests that solved transfers share, at this card
 abbrev pub Shared : List ℕ → Scaled → Bracket → State → Type 0
@@ -69,7 +70,7 @@ solved-is body r h =
     let E = rows-passed (entryOf (problemOf body)) (λ e. atX body (e .0) (e .1)) (first .1) in
     let o = E .0 .0 in
     let start = E .0 .1 in
-    let A = answered-is (timeAt o) (o .t) (arrivalAt o) (sameState body) start (xOf body) r (E .2) in
+    let A = answered-is (timeAt o) (o .t) (arrivalAt o) (sameState body) start (xOf body) (o .f4) r (E .2) in
     (o, start, at-x-is body o start (A .0) (eqb-true (spareOf body) 0 (first .0)) (E .1) (A .1), A .2)
 
 -- and back
@@ -86,7 +87,7 @@ pub solved-passes : (body : List ℕ) (o : Scaled) (start : Bracket) → Passes 
 unfolding verdictOn solvedCard atX must onward
 solved-passes body o start p =
     let f = starts-fair body o start (p .entry) in
-    let passes = answered-passes (timeAt o) (o .t) (arrivalAt o) (sameState body) start (xOf body) f (shared body o start p) in
+    let passes = answered-passes (timeAt o) (o .t) (arrivalAt o) (sameState body) start (xOf body) f (o .f4) (shared body o start p) in
     rw (eq-eqb (spareOf body) 0 (p .spare-is), p .entry) (ap asSolved passes)
 
 -- ---- a refused card

@@ -28,7 +28,7 @@ sameState body state = sameWords body positionFrom (state .r) && sameWords body 
 
 -- Verdicts 3 to 8: 20, 6, 21, then 11 and 6, as at every arrival, and 22
 unfoldable pub atX : List ℕ → Scaled → Bracket → Checked Float
-atX body o b = answeredBy (timeAt o) (o .t) (arrivalAt o) (sameState body) b (xOf body)
+atX body o b = answeredBy (timeAt o) (o .t) (o .f4) (arrivalAt o) (sameState body) b (xOf body)
 
 -- Verdicts 1 and 2: 23; then the refusal of the card's own problem, by the tests before the first guess; and the tests above. The first that
 -- holds is the verdict

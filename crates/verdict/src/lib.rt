@@ -66,7 +66,7 @@ fn at_x(body: &[u8], o: Scaled, b: Bracket) -> Verdict
     ensures { λ r. ⌜ said r ≡ asSolved (atX (now (body .entry)) o b) ⌝ }
 {
     let x = card::number(body, X);
-    match compared::time(b, x, o.time_at(x), o.t) {
+    match compared::time(b, x, o.time_at(x), o.t, o.f4) {
         Timed::Rejected(number) => Verdict::Rejected(number),
         Timed::Residual(residual) => unfolds(body, o, x, residual),
     }

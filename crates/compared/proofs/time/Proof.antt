@@ -3,9 +3,9 @@ use mathlib.Core.Path.{_≡_, refl}
 use mathlib.Core.Bool.{_&&_}
 use borrow.Author.Needs.{needs}
 use borrow.Author.Tests.{not-true, not-false}
-use Rattle.exact.specs.Numbers.{_⊖_, magnitude, isNear}
+use Rattle.exact.specs.Numbers.{isNear}
 use Rattle.rows.specs.Rows.{pass, must}
-use Rattle.compared.specs.Compared.{timedBy}
+use Rattle.compared.specs.Compared.{inSeconds, timedBy}
 use Rattle.compared.proofs.time.Statement.{statement}
 use Rattle.compared.proofs.time.Tie as tie
 
@@ -14,7 +14,7 @@ unfolding must timedBy
 returns c = rw (c .number .ensures, ← c .before .before .before .finite .ensures, ← c .before .before .contains .ensures, not-true (c .before .before .before .finite .result && c .before .before .contains .result) (c .before .if1 .taken)) refl
 
 -- past the first test, the row as it was found
-in-bracket : (c : tie.After-finite2) → timedBy (c .before .before .before .before .args .b) (c .before .before .before .before .args .x) (c .before .before .before .before .args .time) (c .before .before .before .before .args .t) ≡ must (c .finite2 .result) 6 (must (isNear (c .before .before .before .before .args .time) (c .before .before .before .before .args .t)) 21 (pass (magnitude (c .before .before .before .before .args .time ⊖ c .before .before .before .before .args .t))))
+in-bracket : (c : tie.After-finite2) → timedBy (c .before .before .before .before .args .b) (c .before .before .before .before .args .x) (c .before .before .before .before .args .time) (c .before .before .before .before .args .t) (c .before .before .before .before .args .unit) ≡ must (c .finite2 .result) 6 (must (isNear (c .before .before .before .before .args .time) (c .before .before .before .before .args .t)) 21 (pass (inSeconds (c .before .before .before .before .args .time) (c .before .before .before .before .args .t) (c .before .before .before .before .args .unit))))
 unfolding must timedBy
 in-bracket c = rw (← c .before .before .before .finite .ensures, ← c .before .before .contains .ensures, not-false (c .before .before .before .finite .result && c .before .before .contains .result) (c .before .if1 .left), ← c .finite2 .ensures) refl
 
@@ -23,7 +23,7 @@ unfolding must
 returns-2 c = rw (in-bracket (c .before .before), not-true (c .before .before .finite2 .result) (c .before .if2 .taken), c .number2 .ensures) refl
 
 -- past the second
-in-time : (c : tie.After-near) → timedBy (c .before .before .before .before .before .before .args .b) (c .before .before .before .before .before .before .args .x) (c .before .before .before .before .before .before .args .time) (c .before .before .before .before .before .before .args .t) ≡ must (c .near .result) 21 (pass (magnitude (c .before .before .before .before .before .before .args .time ⊖ c .before .before .before .before .before .before .args .t)))
+in-time : (c : tie.After-near) → timedBy (c .before .before .before .before .before .before .args .b) (c .before .before .before .before .before .before .args .x) (c .before .before .before .before .before .before .args .time) (c .before .before .before .before .before .before .args .t) (c .before .before .before .before .before .before .args .unit) ≡ must (c .near .result) 21 (pass (inSeconds (c .before .before .before .before .before .before .args .time) (c .before .before .before .before .before .before .args .t) (c .before .before .before .before .before .before .args .unit)))
 unfolding must
 in-time c = rw (in-bracket (c .before .before), not-false (c .before .before .finite2 .result) (c .before .if2 .left), ← c .near .ensures) refl
 
