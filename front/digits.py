@@ -19,7 +19,6 @@ from front import answers, built, kit, streams, words
 PROGRAM = "root_digits"
 TURNS = 54
 HEADS = ["turn", "pair", "trial", "digit", "remainder"]
-HEX = frozenset("0123456789abcdef")
 # What is printed for zero, and where the number is refused: one line.
 ZEROS = ("root 0000000000000000", "root 8000000000000000")
 REFUSALS = ("refused 1", "refused 13")
@@ -101,6 +100,6 @@ def numbers(name: str, line: str) -> list[int]:
 def read_root(line: str) -> str:
     """The row for the root's line."""
     name, word = line.split(" ")
-    if name != "root" or len(word) != 16 or not HEX.issuperset(word):
+    if name != "root" or not words.is_hex(word):
         raise ValueError(f"'{line}' is not the line of a root")
     return answers.root_row(line)

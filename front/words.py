@@ -14,6 +14,7 @@ NAN = 0x7FF8000000000000
 INFINITY = 0x7FF0000000000000
 SIGN = 1 << 63
 MOST_WHOLE = (1 << 32) - 1
+HEX = frozenset("0123456789abcdef")
 
 # A problem, as `predict` and `write_deck` read it.
 PROBLEM_NAMES = ("MU", "RX", "RY", "RZ", "VX", "VY", "VZ", "DT", "LIMIT")
@@ -54,7 +55,7 @@ def word(text: str) -> int:
     """The word of a number as people write it."""
     small = text.lower()
     digits = small[2:]
-    if small.startswith("0x") and len(digits) == 16 and set(digits) <= set("0123456789abcdef"):
+    if small.startswith("0x") and is_hex(digits):
         return int(digits, 16)
     sign = SIGN if small.startswith("-") else 0
     size = small[1:] if small[:1] in ("-", "+") else small
@@ -69,6 +70,11 @@ def word(text: str) -> int:
         return sign | word_of(float(size))
     except ValueError:
         raise Wrong(f"'{text}' is not a number") from None
+
+
+def is_hex(digits: str) -> bool:
+    """Whether these are the 16 hex digits of a word, in lower case."""
+    return len(digits) == 16 and HEX.issuperset(digits)
 
 
 def whole(text: str) -> int:

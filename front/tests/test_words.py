@@ -55,6 +55,13 @@ class Numbers(unittest.TestCase):
         self.assertEqual(words.word("0x4000000000000000"), 1 << 62)
         self.assertEqual(words.word("0XFFF8000000000ABC"), 0xFFF8000000000ABC)
 
+    def test_hex_digits(self):
+        for digits in ("0123456789abcdef", "0" * 16, "f" * 16):
+            self.assertTrue(words.is_hex(digits))
+        for digits in ("", "0" * 15, "0" * 17, "0123456789ABCDEF", "0123456789abcdeg", "0123456789abcd_f", " " * 16, "٣" * 16):
+            with self.subTest(digits):
+                self.assertFalse(words.is_hex(digits))
+
     def test_no_numbers(self):
         texts = ["", "-", "+", ".", "e5", "1e", "1e5e5", "+-1", "--1", "1_0", " 1", "1 ", "1,5", "١", "infin"]
         texts += ["0x400000000000000", "0x40000000000000000", "0x400000000000000g", "-0x4000000000000000", "0x_4"]
