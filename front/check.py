@@ -1,7 +1,7 @@
 """`check`: the verdicts on a deck of cards.
 
-The program's listing is printed to the letter, and only when it is whole. Then it is said on standard
-error what each number in it means.
+The program's listing is printed to the letter, and only when it is whole. Then, on standard error, mean
+and worst are said in decimals of seconds, where the deck is accepted, and what each number means.
 """
 
 from __future__ import annotations
@@ -20,6 +20,8 @@ def run(texts: list[str]) -> int:
     streams.catch_signals("check")
     _, text, said = checked("check", texts[0])
     streams.show_bytes(text, "check: the listing could not be written")
+    if said.refusal is None:
+        streams.say(said.seconds())
     page.say_why(said.numbers())
     return said.status()
 

@@ -62,16 +62,18 @@ Where a line is wrong, or there are more than 256 problems, it says so, and noth
 
 check prints the program's listing to the letter, and only when it is whole. A line for each card:
 'card', its place, 'solved' or 'refused', and the verdict, 0 where it is accepted; a solved transfer
-is listed as 'solved' too. Then the totals; then 'mean' and 'worst' of the solved cards' |T - t|, as
-words in hex, or 'none'. Of a deck that is refused, one line: 'deck' and the reason's number. Then,
-on standard error, it says what each number but 0 in the listing means, a line each; where every
-card is accepted, nothing.
+is listed as 'solved' too. Then the totals; then 'mean' and 'worst' residual of the cards that are
+accepted as solved, in seconds, |T - t| times the card's own unit of time, as words in hex, or
+'none'. Of a deck that is refused, one line: 'deck' and the reason's number. Then, on standard
+error, it says of a deck that is not refused mean and worst in decimals of seconds, or that there is
+neither; and below that what each verdict but 0, or the reason's number, means, a line each.
 
 show prints for each card its place, kind and verdict, the problem and the answer, with units, in as
-few digits as read back as the same number; then the totals. The verdicts are check's. Of a deck
-that is refused it says why, and prints nothing. With --problems it prints a line for each card, in
-17 digits, that write reads back to the bit: of a deck that write has written, write makes the same
-bytes again. write takes no transfers: they are left out, and it says on standard error how many.
+few digits as read back as the same number; then the totals, and mean and worst in seconds. They and
+the verdicts are check's. Of a deck that is refused it says why, and prints nothing. With --problems
+it prints a line for each card, in 17 digits, that write reads back to the bit: of a deck that write
+has written, write makes the same bytes again. write takes no transfers: they are left out, and it
+says on standard error how many.
 
 why prints what docs/REFUSALS.md says of the NUMBER of a refusal or verdict, written as in the lines
 above: 22, and not 022. Without a NUMBER it prints each that there is, and in short what it means.

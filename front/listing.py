@@ -5,17 +5,23 @@ The verdicts are the program's; the front adds nothing to them and leaves nothin
 
 from __future__ import annotations
 
+from front import words
+
 # The word that stands in a card's line, for each kind of card.
 KIND_WORDS = {"solved": "solved", "refused": "refused", "transfer": "solved"}
 
 
 class Listing:
-    """What a listing says: the deck's refusal, or each card's kind and verdict, and the totals."""
+    """What a listing says: the deck's refusal, or each card's kind and verdict, the totals, and mean and
+    worst of the residuals in seconds."""
 
-    def __init__(self, refusal: int | None, cards: list[tuple[str, int]], totals: list[int]) -> None:
+    def __init__(
+        self, refusal: int | None, cards: list[tuple[str, int]], totals: list[int], residuals: list[int]
+    ) -> None:
         self.refusal = refusal
         self.cards = cards
         self.totals = totals  # solved, refused, rejected
+        self.residuals = residuals  # mean, worst, as words; nothing where there is neither
 
     def numbers(self) -> list[int]:
         """The numbers that have a meaning, other than 0."""
@@ -25,6 +31,14 @@ class Listing:
         """0 where every card is accepted, 1 where one is rejected or the deck is refused."""
         return 1 if self.refusal is not None or self.totals[2] else 0
 
+    def seconds(self) -> str:
+        """Mean and worst in as few digits as read back as the same word. Where there is neither, that is said
+        in words: it is not the same as zero."""
+        if not self.residuals:
+            return "mean and worst: none, no card is accepted as solved"
+        mean, worst = map(words.shortest, self.residuals)
+        return f"mean {mean} s, worst {worst} s"
+
 
 def read(text: bytes) -> Listing:
     """The listing in what the program printed; ValueError where it is not whole."""
@@ -32,11 +46,11 @@ def read(text: bytes) -> Listing:
     if rest or not lines:
         raise ValueError("the last line is not ended")
     if lines[0].startswith("deck ") and len(lines) == 1:
-        return Listing(number(lines[0][5:]), [], [0, 0, 0])
-    *cards, totals, mean, worst = lines
-    read_residual(mean, "mean")
-    read_residual(worst, "worst")
-    return Listing(None, [read_card(place, line) for place, line in enumerate(cards, 1)], read_totals(totals))
+        return Listing(number(lines[0][5:]), [], [0, 0, 0], [])
+    *cards, counts, mean, worst = lines
+    found = [read_card(place, line) for place, line in enumerate(cards, 1)]
+    totals = read_totals(counts)
+    return Listing(None, found, totals, read_residuals(mean, worst, totals[0]))
 
 
 def read_card(place: int, line: str) -> tuple[str, int]:
@@ -49,17 +63,28 @@ def read_card(place: int, line: str) -> tuple[str, int]:
 
 def read_totals(line: str) -> list[int]:
     """How many cards are solved, refused and rejected."""
-    words = line.split(" ")
-    if len(words) != 6 or words[::2] != ["solved", "refused", "rejected"]:
+    found = line.split(" ")
+    if len(found) != 6 or found[::2] != ["solved", "refused", "rejected"]:
         raise ValueError(f"'{line}' is not the line of the totals")
-    return [number(word) for word in words[1::2]]
+    return [number(word) for word in found[1::2]]
 
 
-def read_residual(line: str, name: str) -> None:
-    """Sees to it that this is the line of the mean or the worst residual."""
+def read_residuals(mean: str, worst: str, solved: int) -> list[int]:
+    """The words of mean and worst, from their lines. There is neither exactly where no card is solved."""
+    if solved:
+        return [read_residual("mean", mean), read_residual("worst", worst)]
+    if (mean, worst) != ("mean none", "worst none"):
+        raise ValueError(f"'{mean}' and '{worst}' are not the lines where no card is solved")
+    return []
+
+
+def read_residual(name: str, line: str) -> int:
+    """The word in the line of that name. It is finite and has no minus (docs/RULES.md, "Tally")."""
     first, word = line.split(" ")
-    if first != name or not (word == "none" or len(word) == 16):
+    # Above the word of infinity come the NaNs, and then all that has a minus.
+    if first != name or not words.is_hex(word) or int(word, 16) >= words.INFINITY:
         raise ValueError(f"'{line}' is not the line of {name}")
+    return int(word, 16)
 
 
 def number(digits: str) -> int:

@@ -1,9 +1,9 @@
 """`show`: the cards of a deck as people read them.
 
-The verdicts are those of `check_deck`; a deck that it refuses is not shown. The numbers are the fields
-of the cards' bytes, in as few digits as read back as the same word. With --problems the problems
-alone are printed, as lines that `write` takes; a transfer is no such problem and is left out. Three
-cards are shown so:
+Verdicts, totals, mean and worst are those of `check_deck`; a deck that it refuses is not shown. The
+other numbers are the fields of the cards' bytes. All are in as few digits as read back as the same
+word. With --problems the problems alone are printed, as lines that `write` takes; a transfer is no
+such problem and is left out. Three cards are shown so:
 
     card 1: solved; accepted
       problem  mu        398600.4418 km^3/s^2
@@ -34,6 +34,7 @@ cards are shown so:
                velocity  1.186044512683371 7.38665218685074 0.9233315233563425 km/s
 
     3 cards: 2 solved, 0 refused, 1 rejected
+    mean 2.0597684308866947e-13 s, worst 4.1195368617733894e-13 s
 """
 
 from __future__ import annotations
@@ -92,11 +93,12 @@ def cards_of(deck: bytes, said: Listing) -> list[words.Card]:
 
 
 def shown(cards: list[words.Card], said: Listing) -> str:
-    """All cards, and the totals."""
+    """All cards, the totals, and mean and worst."""
     texts = [card_text(place, card, said.cards[place - 1][1]) for place, card in enumerate(cards, 1)]
     solved, refused, rejected = said.totals
     count = streams.counted(len(cards), "card")
-    return "\n".join([*texts, f"{count}: {solved} solved, {refused} refused, {rejected} rejected\n"])
+    totals = f"{count}: {solved} solved, {refused} refused, {rejected} rejected"
+    return "\n".join([*texts, f"{totals}\n{said.seconds()}\n"])
 
 
 def card_text(place: int, card: words.Card, verdict: int) -> str:

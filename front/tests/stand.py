@@ -13,7 +13,7 @@ from front import commands, streams
 
 class Stand(unittest.TestCase):
     """What each program prints, by its name, and how it ends. What the command prints and says is kept,
-    with its descriptor."""
+    with its descriptor, and in what order."""
 
     def setUp(self):
         folder = tempfile.TemporaryDirectory()
@@ -22,6 +22,7 @@ class Stand(unittest.TestCase):
         self.prints = {}
         self.ends = {}
         self.written = {1: "", 2: ""}
+        self.order = []
         self.write = streams.write
         for name, stand_in in (("write", self.keep), ("plug", lambda: None)):
             self.patch(mock.patch.object(streams, name, stand_in))
@@ -35,6 +36,7 @@ class Stand(unittest.TestCase):
         """Keeps what goes to standard output and error; a program gets its input."""
         if descriptor in self.written:
             self.written[descriptor] += data.decode()
+            self.order.append(descriptor)
         else:
             self.write(descriptor, data)
 

@@ -30,6 +30,7 @@ card 2: refused; rejected with 23: a spare is not 0, or a way neither 0 nor 1
            spare     7
 
 2 cards: 1 solved, 0 refused, 1 rejected
+mean 5e-324 s, worst 0.25 s
 """
 SHOWN_TRANSFER = """\
 card 1: solved transfer; accepted
@@ -43,6 +44,7 @@ card 1: solved transfer; accepted
            velocity  1.25 7.5 1 km/s
 
 1 card: 1 solved, 0 refused, 0 rejected
+mean 0 s, worst 2.615987810513348e+297 s
 """
 LISTING = b"""\
 card 1 solved 0
@@ -58,11 +60,11 @@ class Show(unittest.TestCase):
     """The text of cards."""
 
     def test_two_cards(self):
-        said = listing.Listing(None, [("solved", 0), ("refused", 23)], [1, 0, 1])
+        said = listing.Listing(None, [("solved", 0), ("refused", 23)], [1, 0, 1], [1, words.word("0.25")])
         self.assertEqual(show.shown(words.cards(deck_of(SOLVED, REFUSED)), said), SHOWN)
 
     def test_a_transfer(self):
-        said = listing.Listing(None, [("solved", 0)], [1, 0, 0])
+        said = listing.Listing(None, [("solved", 0)], [1, 0, 0], [0, 0x7DB << 52])
         self.assertEqual(show.shown(words.cards(deck_of(TRANSFER)), said), SHOWN_TRANSFER)
 
     def test_ways_of_a_transfer(self):
@@ -73,8 +75,9 @@ class Show(unittest.TestCase):
         self.assertRegex(show.card_text(7, card, 23), r"^card 7: solved transfer; rejected with 23: .*way")
 
     def test_no_cards(self):
-        text = show.shown([], listing.Listing(None, [], [0, 0, 0]))
-        self.assertEqual(text, "0 cards: 0 solved, 0 refused, 0 rejected\n")
+        text = show.shown([], listing.Listing(None, [], [0, 0, 0], []))
+        last = "mean and worst: none, no card is accepted as solved\n"
+        self.assertEqual(text, "0 cards: 0 solved, 0 refused, 0 rejected\n" + last)
 
     def test_numbers_that_are_none(self):
         (card,) = words.cards(deck_of(SOLVED))
@@ -87,13 +90,13 @@ class Show(unittest.TestCase):
             self.assertEqual(show.refusal_text(number), f"{number}: no refusal of a prediction")
 
     def test_the_listing_of_another_deck(self):
-        said = listing.Listing(None, [("refused", 0)], [0, 1, 0])
+        said = listing.Listing(None, [("refused", 0)], [0, 1, 0], [])
         for card in (SOLVED, TRANSFER):
             with self.assertRaisesRegex(streams.Stop, "not this deck's"):
                 show.cards_of(deck_of(card), said)
 
     def test_the_listing_calls_a_transfer_solved(self):
-        said = listing.Listing(None, [("solved", 0), ("refused", 0), ("solved", 22)], [1, 1, 1])
+        said = listing.Listing(None, [("solved", 0), ("refused", 0), ("solved", 22)], [1, 1, 1], [0, 0])
         cards = show.cards_of(deck_of(TRANSFER, REFUSED, SOLVED), said)
         self.assertEqual([card.kind for card in cards], ["transfer", "refused", "solved"])
         said.cards[0] = ("transfer", 0)
@@ -171,6 +174,14 @@ class Ran(unittest.TestCase):
     def test_help_has_each_command(self):
         for name in set(commands.COMMANDS) - {"run"}:
             self.assertIn(f" ./tailfiddle {name} ", help.TEXT)
+
+    def test_help_in_a_hundred_columns(self):
+        self.assertLessEqual(max(map(len, help.TEXT.split("\n"))), 100)
+
+    def test_help_says_seconds(self):
+        for first, said in (("check", "mean and worst in decimals of seconds"), ("show", "mean and worst in seconds")):
+            (part,) = [part for part in help.TEXT.split("\n\n") if part.startswith(f"{first} prints")]
+            self.assertIn(said, " ".join(part.split()))
 
     def test_a_fault_is_no_refusal(self):
         with mock.patch("front.why.run", side_effect=RuntimeError("odd")):

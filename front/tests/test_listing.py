@@ -2,7 +2,7 @@
 
 import unittest
 
-from front import listing
+from front import listing, words
 
 WHOLE = b"""\
 card 1 solved 0
@@ -22,20 +22,21 @@ class Reading(unittest.TestCase):
         self.assertIsNone(said.refusal)
         self.assertEqual(said.cards, [("solved", 0), ("refused", 24), ("solved", 22)])
         self.assertEqual(said.totals, [1, 0, 2])
+        self.assertEqual(said.residuals, [0, 0x3DA2E00000000000])
         self.assertEqual(said.numbers(), [24, 22])
         self.assertEqual(said.status(), 1)
 
     def test_all_accepted(self):
         said = listing.read(b"card 1 refused 0\nsolved 0 refused 1 rejected 0\nmean none\nworst none\n")
-        self.assertEqual((said.numbers(), said.status()), ([], 0))
+        self.assertEqual((said.numbers(), said.status(), said.residuals), ([], 0, []))
 
     def test_no_cards(self):
         said = listing.read(b"solved 0 refused 0 rejected 0\nmean none\nworst none\n")
-        self.assertEqual((said.cards, said.status()), ([], 0))
+        self.assertEqual((said.cards, said.status(), said.residuals), ([], 0, []))
 
     def test_a_refused_deck(self):
         said = listing.read(b"deck 31\n")
-        self.assertEqual((said.refusal, said.numbers(), said.status()), (31, [31], 1))
+        self.assertEqual((said.refusal, said.numbers(), said.status(), said.residuals), (31, [31], 1, []))
 
     def test_each_cut_is_refused(self):
         for length in range(len(WHOLE)):
@@ -73,6 +74,84 @@ class Reading(unittest.TestCase):
         ):
             with self.subTest(new), self.assertRaises(ValueError):
                 listing.read(WHOLE.replace(old, new, 1))
+
+
+def ended(mean, worst, solved=1):
+    """A listing without cards' lines: the totals, mean and worst."""
+    return f"solved {solved} refused 0 rejected 0\nmean {mean}\nworst {worst}\n".encode()
+
+
+ZERO = "0000000000000000"
+# A finite number without a minus: the least, the largest subnormal one, the least behind it, 2^988.
+GOOD = (ZERO, "0000000000000001", "000fffffffffffff", "0010000000000000", "7db0000000000000", "7fefffffffffffff")
+NOT_FINITE = ("7ff0000000000000", "7ff0000000000001", "7ff8000000000000", "7fffffffffffffff")
+MINUS = ("8000000000000000", "8000000000000001", "bdb0000000000000", "fff0000000000000", "fff8000000000000")
+NO_WORDS = (
+    *("", "None", "NONE", "none ", "nan", "0", "0.0", ZERO[1:], ZERO + "0", " " + ZERO, ZERO + " "),
+    *("3DA2E00000000000", "3da2e0000000000g", "0x3da2e000000000", "3da2e0000000_000", "+da2e00000000000"),
+)
+
+
+class Residuals(unittest.TestCase):
+    """Mean and worst: two words of finite numbers without a minus, or none where no card is solved."""
+
+    def test_words(self):
+        for word in GOOD:
+            with self.subTest(word):
+                self.assertEqual(listing.read(ended(word, ZERO)).residuals, [int(word, 16), 0])
+                self.assertEqual(listing.read(ended(ZERO, word)).residuals, [0, int(word, 16)])
+
+    def test_what_is_refused(self):
+        for word in (*NOT_FINITE, *MINUS, *NO_WORDS):
+            for lines in (ended(word, ZERO), ended(ZERO, word), ended(word, word)):
+                for text in (lines, lines.replace(b"solved 1", b"solved 0")):
+                    with self.subTest(text), self.assertRaises(ValueError):
+                        listing.read(text)
+
+    def test_none_exactly_where_no_card_is_solved(self):
+        self.assertEqual(listing.read(ended("none", "none", 0)).residuals, [])
+        for solved, mean, worst in (
+            (0, ZERO, ZERO),
+            (0, ZERO, "none"),
+            (0, "none", ZERO),
+            (1, "none", "none"),
+            (1, ZERO, "none"),
+            (256, "none", ZERO),
+        ):
+            with self.subTest((solved, mean, worst)), self.assertRaises(ValueError):
+                listing.read(ended(mean, worst, solved))
+
+    def test_each_has_its_line(self):
+        lines = ended(ZERO, ZERO)
+        for wrong in (
+            lines.replace(b"mean", b"worst"),
+            lines.replace(b"worst", b"mean"),
+            b"solved 1 refused 0 rejected 0\nworst 0000000000000000\nmean 0000000000000000\n",
+            b"solved 0 refused 0 rejected 0\nworst none\nmean none\n",
+        ):
+            with self.subTest(wrong), self.assertRaises(ValueError):
+                listing.read(wrong)
+
+    def test_seconds(self):
+        for mean, worst, said in (
+            (ZERO, ZERO, "mean 0 s, worst 0 s"),
+            ("3e2ccd98e9973ec9", "3e4319c40bb4cc75", "mean 3.3531238451872792e-09 s, worst 8.894432182611344e-09 s"),
+            ("3fb999999999999a", "4059000000000000", "mean 0.1 s, worst 100 s"),
+            ("0000000000000001", "000fffffffffffff", "mean 5e-324 s, worst 2.225073858507201e-308 s"),
+            ("7db0000000000000", "7db0000000000000", "mean 2.615987810513348e+297 s, worst 2.615987810513348e+297 s"),
+        ):
+            with self.subTest(said):
+                self.assertEqual(listing.read(ended(mean, worst)).seconds(), said)
+
+    def test_seconds_read_back(self):
+        for word in GOOD:
+            _, mean, _, _, worst, _ = listing.read(ended(word, word)).seconds().split(" ")
+            self.assertEqual([words.word(mean), words.word(worst)], [int(word, 16)] * 2)
+
+    def test_neither_is_not_zero(self):
+        said = listing.read(ended("none", "none", 0)).seconds()
+        self.assertEqual(said, "mean and worst: none, no card is accepted as solved")
+        self.assertNotRegex(said, "[0-9]")
 
 
 if __name__ == "__main__":
