@@ -155,7 +155,7 @@ uint32_t NAMED(predict)(const uint8_t *problem, double *sum)
 /* Where entry i stands; behind the last entry the bodies begin. */
 static size_t entry_at(size_t i) { return 8 + 12 * i; }
 
-/* The verdict on a solved card, and its residual |T - t|. */
+/* The verdict on a solved card, and its residual, |T - t| in seconds. */
 static uint32_t judge_solved(const uint8_t *body, double *residual)
 {
     if (half(body + 68) != 0)
@@ -179,7 +179,7 @@ static uint32_t judge_solved(const uint8_t *body, double *residual)
     refusal = arrive(&o, u, &state);
     if (refusal)
         return refusal;
-    *residual = absolute(T - o.t);
+    *residual = absolute(T - o.t) * o.f4;
     return __builtin_memcmp(&state, body + 80, sizeof state) == 0 ? 0 : 22;
 }
 

@@ -24,7 +24,7 @@ uint32_t tailfiddle_transfer(const uint8_t *transfer, size_t length, double *sum
 uint32_t digit_transfer(const uint8_t *transfer, double *sum);
 uint32_t hardware_transfer(const uint8_t *transfer, double *sum);
 
-/* Of a deck: the mean residual, NaN where no card is solved, or minus the refusal's number. */
+/* Of a deck: the mean residual in seconds, NaN where no card is solved, or minus the refusal's number. */
 double tailfiddle_check(const uint8_t *deck, size_t length, uint32_t *verdicts, size_t room);
 double digit_check(const uint8_t *deck, size_t length, uint32_t *verdicts, size_t room);
 double hardware_check(const uint8_t *deck, size_t length, uint32_t *verdicts, size_t room);

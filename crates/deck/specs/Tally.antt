@@ -29,7 +29,7 @@ unfoldable pub countedAll : Running → List Said → Running
 countedAll n [] = n
 countedAll n (v ∷ vs) = countedAll (counted n v) vs
 
--- mean and worst, or neither
+-- mean and worst, in seconds, or neither
 pub data Residuals : Type 0 where
   absent : Residuals
   known : (mean worst : Float) → Residuals

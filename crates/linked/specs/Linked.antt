@@ -34,7 +34,7 @@ sumAfter sum (answer.refusedWithBracket k n lo hi) lent = lent
 abbrev pub minusNumber : ℕ → Float
 minusNumber k = neg (ofInt binary64 (pos k))
 
--- the mean of an accepted deck; NaN where it is absent
+-- the mean of an accepted deck, in seconds; NaN where it is absent
 abbrev pub meanOf : Residuals → Float
 meanOf absent = nan
 meanOf (known mean worst) = mean

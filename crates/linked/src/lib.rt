@@ -64,8 +64,9 @@ pub extern "C" fn tailfiddle_transfer(transfer: &[u8], sum: &mut f64) -> u32
     }
 }
 
-// The check of a deck, with the verdicts in the lent list: the mean residual, which is not below
-// zero; NaN where it is absent; minus the refusal's number where the deck is refused.
+// The check of a deck, with the verdicts in the lent list: the mean residual in seconds, which is
+// finite and not below zero; NaN where it is absent; minus the refusal's number where the deck is
+// refused.
 #[no_mangle]
 pub extern "C" fn tailfiddle_check(deck: &[u8], verdicts: &mut [u32]) -> f64
     ensures { λ r. ⌜ r ≡ meanIn (answerOf (now (deck .entry)) (length (now (verdicts .entry)))) ⌝ }

@@ -10,7 +10,7 @@ use Rattle.deck.specs.Tally.{Residuals, absent, known}
 abbrev pub totalsLine : Totals → List ℕ
 totalsLine n = joined (text "solved" ∷ count (n .solved) ∷ text " refused" ∷ count (n .refused) ∷ text " rejected" ∷ count (n .rejected) ∷ text "\n" ∷ [])
 
--- The listing 4: mean and worst, or that there is neither
+-- The listing 4: mean and worst, in seconds, or that there is neither
 abbrev pub residualLines : Residuals → List ℕ
 residualLines absent = text "mean none\nworst none\n"
 residualLines (known mean worst) = joined (text "mean" ∷ number mean ∷ text "\nworst" ∷ number worst ∷ text "\n" ∷ [])

@@ -23,7 +23,7 @@ pub fn totals_line(totals: Totals, page: &mut [u8], at: usize) -> usize
     pieces::put(page, end, b"\n")
 }
 
-// Mean and worst, or that there is neither.
+// Mean and worst, in seconds, or that there is neither.
 pub fn residual_lines(residuals: Residuals, page: &mut [u8], at: usize) -> usize
     ensures { λ r. ⌜ r ≡ endIn (now (page .entry)) at (residualLines (told residuals)) ⌝ }
     ensures { λ r. ⌜ now (page .exit) ≡ putIn (now (page .entry)) at (residualLines (told residuals)) ⌝ }
