@@ -102,6 +102,12 @@ impl Card {
         }
     }
 
+    /// The transfer of the card, by this way.
+    pub fn by_way(&self, way: u32) -> transfer::Input {
+        let Input { words, limit } = self.problem;
+        transfer::Input { words, limit, way }
+    }
+
     /// The problem as Kepler answers it.
     pub fn own(problem: Input) -> Card {
         match kepler::answer(&problem) {

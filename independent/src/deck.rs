@@ -3,8 +3,10 @@
 use crate::answer::refuse;
 use crate::bytes::u32_at;
 use crate::cards::{Card, Claim, Kind, State, Velocity};
-use crate::kepler::{self, Input};
+use crate::chance::power_of_two;
+use crate::kepler;
 use crate::search::{Search, NEAR};
+use crate::times::Times;
 use crate::transfer;
 
 /// As much as a program reads of a deck: one byte more than the largest one has.
@@ -17,13 +19,14 @@ pub const ENTRIES: usize = 8;
 pub const ENTRY: usize = 12;
 
 enum Verdict {
-    /// Verdict 0 of a solved card or a solved transfer, with its |T - t|.
-    Solved(f64),
+    /// Verdict 0 of a solved card or a solved transfer.
+    Solved(Times),
     /// Verdict 0 of a refused card.
     Refused,
     Rejected(u32),
 }
 
+/// The sum of the residuals and the worst of them are in seconds.
 #[derive(Default)]
 struct Tally {
     solved: u32,
@@ -91,41 +94,37 @@ fn verdict(card: &Card) -> Verdict {
         Claim::Solved { x, state, .. } => solved(card, x, state).map(Verdict::Solved),
         Claim::Refused { number, .. } => refused(card, number).map(|()| Verdict::Refused),
         Claim::Transfer { way, z, velocity } => {
-            let Input { words, limit } = card.problem;
-            let input = transfer::Input { words, limit, way };
-            transferred(&input, z, velocity).map(Verdict::Solved)
+            transferred(&card.by_way(way), z, velocity).map(Verdict::Solved)
         }
     };
     verdict.unwrap_or_else(Verdict::Rejected)
 }
 
-/// |T - t| of a solved card, or its verdict. States are compared as words.
-fn solved(card: &Card, x: u64, sent: State) -> Result<f64, u32> {
+/// The times of a solved card, or its verdict. States are compared as words.
+fn solved(card: &Card, x: u64, sent: State) -> Result<Times, u32> {
     refuse(23, card.has_spare())?;
-    let kepler::Started { orbit, search } = kepler::start(&card.problem)?;
+    let started = kepler::start(&card.problem)?;
     let x = f64::from_bits(x);
-    let gap = gap(&search, x, |x| orbit.time_at(x))?;
-    refuse(22, sent != orbit.arrive(x)?.map(f64::to_bits))?;
-    Ok(gap)
+    let times = near(&started.search, x, started.times(x))?;
+    refuse(22, sent != started.orbit.arrive(x)?.map(f64::to_bits))?;
+    Ok(times)
 }
 
 /// The same of a solved transfer. Its way is tested before all else.
-fn transferred(input: &transfer::Input, z: u64, sent: Velocity) -> Result<f64, u32> {
-    let transfer::Started { transfer, search } = transfer::start(input)?;
+fn transferred(input: &transfer::Input, z: u64, sent: Velocity) -> Result<Times, u32> {
+    let started = transfer::start(input)?;
     let z = f64::from_bits(z);
-    let gap = gap(&search, z, |z| transfer.time(z))?;
-    refuse(22, sent != transfer.departure(z)?.map(f64::to_bits))?;
-    Ok(gap)
+    let times = near(&started.search, z, started.times(z))?;
+    refuse(22, sent != started.transfer.departure(z)?.map(f64::to_bits))?;
+    Ok(times)
 }
 
-/// |T - t| at the x, or z, of a card, after 20, 6 and 21.
-fn gap(search: &Search, x: f64, time: impl Fn(f64) -> f64) -> Result<f64, u32> {
+/// The times at the x, or z, of a card, after 20, 6 and 21.
+fn near(search: &Search, x: f64, times: Times) -> Result<Times, u32> {
     refuse(20, !x.is_finite() || !search.contains(x))?;
-    let time = time(x);
-    refuse(6, !time.is_finite())?;
-    let gap = (time - search.t).abs();
-    refuse(21, gap > NEAR)?;
-    Ok(gap)
+    refuse(6, !times.reached.is_finite())?;
+    refuse(21, times.gap() > NEAR)?;
+    Ok(times)
 }
 
 fn refused(card: &Card, number: u32) -> Result<(), u32> {
@@ -146,10 +145,11 @@ impl Verdict {
 impl Tally {
     fn add(&mut self, verdict: &Verdict) {
         match verdict {
-            Verdict::Solved(gap) => {
+            Verdict::Solved(times) => {
+                let residual = held(times.residual());
                 self.solved += 1;
-                self.sum += gap;
-                self.worst = self.worst.max(*gap);
+                self.sum += residual;
+                self.worst = self.worst.max(residual);
             }
             Verdict::Refused => self.refused += 1,
             Verdict::Rejected(_) => self.rejected += 1,
@@ -159,7 +159,7 @@ impl Tally {
     fn lines(&self) -> String {
         let shown = |number: f64| match self.solved {
             0 => "none".to_string(),
-            _ => format!("{:016x}", number.to_bits()),
+            _ => format!("{:016x}", held(number).to_bits()),
         };
         format!(
             "solved {} refused {} rejected {}\nmean {}\nworst {}\n",
@@ -170,4 +170,13 @@ impl Tally {
             shown(self.worst)
         )
     }
+}
+
+/// A residual, a mean or a worst one, held to RULES, Tally 4: no minus, and at most 2^988 seconds.
+fn held(seconds: f64) -> f64 {
+    assert!(
+        seconds.is_sign_positive() && seconds <= power_of_two(988),
+        "{seconds:e} s is no residual"
+    );
+    seconds
 }

@@ -4,6 +4,7 @@ use crate::answer::{refuse, Answer};
 use crate::bytes::{joined, u32_at, words_from_bytes, words_to_bytes};
 use crate::conic::{inner_root, Orbit, Problem, Words};
 use crate::search::{End, Search};
+use crate::times::Times;
 
 /// The bytes of a problem: the words, then the limit.
 pub const PROBLEM: usize = 68;
@@ -32,6 +33,16 @@ impl Input {
 pub struct Started {
     pub orbit: Orbit,
     pub search: Search,
+}
+
+impl Started {
+    pub fn times(&self, x: f64) -> Times {
+        Times {
+            reached: self.orbit.time_at(x),
+            wanted: self.search.t,
+            unit: self.orbit.f4,
+        }
+    }
 }
 
 pub fn answer(input: &Input) -> Answer {

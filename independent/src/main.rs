@@ -31,6 +31,7 @@ mod suite;
 mod theta;
 mod theta_inputs;
 mod ties;
+mod times;
 mod traits;
 mod transfer;
 mod transfer_cards;

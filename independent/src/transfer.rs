@@ -4,6 +4,7 @@ use crate::answer::{refuse, Answer};
 use crate::bytes::{joined, u32_at, words_from_bytes, words_to_bytes};
 use crate::conic::{all_finite, dot, inner_root, usable, Problem, Vector, Words};
 use crate::search::{End, Search};
+use crate::times::Times;
 use crate::universal::functions;
 
 /// The bytes of a record: the words, the limit, the way.
@@ -69,6 +70,16 @@ struct Reach {
 pub struct Started {
     pub transfer: Transfer,
     pub search: Search,
+}
+
+impl Started {
+    pub fn times(&self, z: f64) -> Times {
+        Times {
+            reached: self.transfer.time(z),
+            wanted: self.search.t,
+            unit: self.transfer.places.f4,
+        }
+    }
 }
 
 pub fn answer(input: &Input) -> Answer<3> {
