@@ -100,6 +100,11 @@ fn verdict(card: &Card) -> Verdict {
     verdict.unwrap_or_else(Verdict::Rejected)
 }
 
+/// Whether the card's verdict is 0.
+pub fn accepted(card: &Card) -> bool {
+    verdict(card).number() == 0
+}
+
 /// The times of a solved card, or its verdict. States are compared as words.
 fn solved(card: &Card, x: u64, sent: State) -> Result<Times, u32> {
     refuse(23, card.has_spare())?;

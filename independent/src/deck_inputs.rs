@@ -13,6 +13,7 @@ use crate::solved_cards::{self as solved, Sort};
 use crate::ties;
 use crate::transfer_cards;
 use crate::transfer_decks;
+use crate::unit_cards;
 use crate::writer::deck;
 
 /// A sort of cards, how many rounds of it the gate's decks have, and how many cards at most stand in
@@ -53,6 +54,7 @@ pub fn fixed() -> Vec<Named> {
     list.extend(long(chance));
     list.extend((0..600).map(|_| mixture(chance, |chance| few(&SORTS, chance))));
     list.extend(transfer_decks::fixed());
+    list.extend(unit_cards::decks());
     list
 }
 
@@ -66,11 +68,14 @@ pub fn of_sorts(sorts: &[SortRow], chance: &mut Chance) -> Vec<Named> {
     list
 }
 
-/// One deck of some kind, with cards of each kind. Most of them are not damaged.
+/// One deck of some kind, with cards of each kind. Most of them are not damaged. In some there are cards
+/// with units from all over binary64, and in fewer no others.
 pub fn mixed(chance: &mut Chance) -> Named {
-    mixture(chance, |chance| match chance.below(3) {
-        0 => few(&transfer_cards::SORTS, chance),
-        _ => few(&SORTS, chance),
+    let units = chance.one_of(&[0, 0, 0, 0, 1, 1, 4, 12]);
+    mixture(chance, |chance| match chance.below(12) {
+        sort if sort < units => few(&unit_cards::SORTS, chance),
+        0..=7 => few(&SORTS, chance),
+        _ => few(&transfer_cards::SORTS, chance),
     })
 }
 

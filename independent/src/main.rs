@@ -12,6 +12,7 @@ mod damage;
 mod deck;
 mod deck_inputs;
 mod edges;
+mod ends;
 mod file_suite;
 mod kepler;
 mod kepler_edges;
@@ -38,6 +39,7 @@ mod transfer_cards;
 mod transfer_decks;
 mod transfer_edges;
 mod transfer_inputs;
+mod unit_cards;
 mod universal;
 mod writer;
 

@@ -74,6 +74,22 @@ impl Frame {
         }
     }
 
+    /// The exponent of the unit of time, r0*f1, in this range, by some r0 and f1. At the ends of binary64
+    /// some can't be scaled.
+    pub fn of_unit(chance: &mut Chance, [lo, hi]: [i32; 2]) -> Frame {
+        let exponent = lo + chance.below((hi - lo + 1) as u64) as i32;
+        // The exponents of r0 with which the squares of r0 and f1, and mu, are in binary64.
+        let most = 511.min(exponent + 537).min((2 * exponent + 1020) / 3);
+        let least = (-537).max(exponent - 511).max((2 * exponent - 1020) / 3);
+        let r0 = chance.scale(least.min(most), most);
+        let f1 = chance.scale(exponent, exponent) / r0;
+        Frame {
+            r0,
+            mu: r0 / f1 / f1,
+            axes: directions(chance),
+        }
+    }
+
     /// The problem whose scaled velocity is w, but for rounding. The three numbers of w go along
     /// the three directions: the first of them is s.
     pub fn words(&self, w: Vector, span: f64) -> Words {

@@ -6,6 +6,7 @@ use crate::cards::{Card, Claim, State};
 use crate::chance::{power_of_two, Chance};
 use crate::conic::LOW;
 use crate::edges;
+use crate::ends::Ends;
 use crate::kepler::{self, far_end, Input, Started};
 use crate::kepler_edges::Exact;
 use crate::kepler_inputs::{self, aimed, unhurried};
@@ -91,8 +92,14 @@ impl Base {
         self.side * self.started.search.t
     }
 
-    fn at(&self, size: f64) -> Card {
+    pub fn at(&self, size: f64) -> Card {
         Card::at(self.problem, self.side * size)
+    }
+
+    /// The sizes at which |T - t| comes to 2^-36.
+    pub fn ends(&self) -> Ends {
+        let near = |size: f64| self.started.times(self.side * size).gap() <= NEAR;
+        Ends::about(self.size, self.far(), near)
     }
 
     /// The card with the size at which the problem is solved.
@@ -203,15 +210,7 @@ pub fn not_finite(chance: &mut Chance) -> Vec<Card> {
 /// |T - t| at 2^-36, on either side of the answer.
 pub fn about_near(chance: &mut Chance) -> Vec<Card> {
     let base = Base::any(chance);
-    let near = |size: f64| (base.time(size) - base.wanted()).abs() <= NEAR;
-    let first = last(LEAST, base.size, |size| !near(size));
-    let last = last(base.size, base.far(), near);
-    [first, last]
-        .into_iter()
-        .flatten()
-        .flat_map(|size| (-3..=3).map(move |places| beside(size, places)))
-        .map(|size| base.at(size))
-        .collect()
+    base.ends().around(3).map(|size| base.at(size)).collect()
 }
 
 /// The same by the choice of dt, met to the last bit.

@@ -3,14 +3,13 @@
 
 use crate::cards::{Card, Claim};
 use crate::chance::{power_of_two, Chance};
-use crate::deck;
+use crate::deck::accepted;
 use crate::kepler;
 use crate::kepler_edges::Exact;
 use crate::motion::{self, beside};
 use crate::root::parts;
 use crate::search::NEAR;
 use crate::solved_cards::sent;
-use crate::writer;
 
 /// The whole numbers are multiples of 2^-160.
 const UNIT: i32 = -160;
@@ -58,10 +57,6 @@ fn hold_to_gap(card: &Card) {
 /// Whether the exact gap is above 2^-36 and the card is accepted all the same.
 pub fn rounded_down(card: &Card) -> bool {
     exact_gap(card) > TOLERANCE && accepted(card)
-}
-
-fn accepted(card: &Card) -> bool {
-    deck::listing(&writer::deck(&[*card])).starts_with("card 1 solved 0\n")
 }
 
 /// |T - t|, both being on the same side of 0.

@@ -5,6 +5,7 @@ use crate::answer::Answer;
 use crate::cards::{Card, Claim, Velocity};
 use crate::chance::Chance;
 use crate::deck_inputs::SortRow;
+use crate::ends::Ends;
 use crate::kepler_inputs::LIMITS;
 use crate::legs::Leg;
 use crate::motion::{self, beside, last, NOT_FINITE};
@@ -38,7 +39,7 @@ const OWN_REFUSALS: [u32; 8] = [1, 2, 3, 5, 6, 50, 51, 52];
 
 /// A transfer that passes the tests before the first guess, and a z at which it is solved, or
 /// nearly so.
-struct Base {
+pub struct Base {
     input: Input,
     started: Started,
     z: f64,
@@ -56,7 +57,7 @@ impl Base {
     }
 
     /// None where the tests refuse the transfer.
-    fn of(input: Input) -> Option<Base> {
+    pub fn of(input: Input) -> Option<Base> {
         let started = transfer::start(&input).ok()?;
         let z = match transfer::answer(&unhurried(input.words, input.way)) {
             Answer::Solved { x, .. } => x,
@@ -73,8 +74,14 @@ impl Base {
         self.started.search.t
     }
 
-    fn at(&self, z: f64) -> Card {
+    pub fn at(&self, z: f64) -> Card {
         Card::transfer_at(self.input, z)
+    }
+
+    /// The z at which |T - t| comes to 2^-36.
+    pub fn ends(&self) -> Ends {
+        let near = |z: f64| self.started.times(z).gap() <= NEAR;
+        Ends::about(self.z, FAR, near)
     }
 
     fn solved(&self) -> Card {
@@ -203,15 +210,7 @@ fn not_finite(chance: &mut Chance) -> Vec<Card> {
 /// |T - t| at 2^-36, on either side of the answer.
 fn about_near(chance: &mut Chance) -> Vec<Card> {
     let base = Base::any(chance);
-    let near = |z: f64| (base.time(z) - base.wanted()).abs() <= NEAR;
-    let first = last(LEAST, base.z, |z| !near(z));
-    let last = last(base.z, FAR, near);
-    [first, last]
-        .into_iter()
-        .flatten()
-        .flat_map(|z| (-2..=2).map(move |places| beside(z, places)))
-        .map(|z| base.at(z))
-        .collect()
+    base.ends().around(2).map(|z| base.at(z)).collect()
 }
 
 /// The same by the choice of dt, met to the last bit: |T - t| is 2^-36 itself, or a last place more
