@@ -5,7 +5,7 @@
 # A suite: the program's name here and in the independent program; the form of its inputs: the bytes of
 # one, or, where these have many sizes and each is a file of its own, the ending of the files' names; the
 # fewest inputs that the gate takes; and the fewest of each kind among them: kinds of answer, and for
-# transfers kinds of input too, so that a list can't leave out what it must try.
+# transfers and for units of time kinds of input too, so that a list can't leave out what it must try.
 suites=(
     "roots 8 20000 refused 1: 1000, refused 13: 1000, root: 20000"
     "root_digits 8 9000 refused 1: 100, refused 13: 430, root: 8500, rounded: 8500, turn: 459000"
@@ -29,7 +29,20 @@ solved 6: 20, solved 7: 20, solved 8: 20, solved 11: 20, solved 20: 20, solved 2
 solved 23: 20, refused 0: 5000, refused 23: 20, refused 24: 20, deck 30: 20, deck 31: 20, deck 32: 20, \
 deck 33: 20, deck 34: 20, deck 35: 20, deck 36: 20, deck 37: 20, deck 38: 20, transfer 0: 500, transfer 1: 20, \
 transfer 2: 20, transfer 3: 20, transfer 5: 20, transfer 6: 20, transfer 20: 160, transfer 21: 260, transfer 22: 140, \
-transfer 23: 150, transfer 50: 20, transfer 51: 20, transfer 52: 20, with transfer: 400, refused with transfer: 150"
+transfer 23: 150, transfer 50: 20, transfer 51: 20, transfer 52: 20, with transfer: 400, refused with transfer: 150, \
+unit subnormal: 120, unit below 1e-290: 250, unit 1e-290 to 1e-150: 190, unit 1e-150 to 1e-50: 350, \
+unit 1e-50 to 1e50: 10000, unit 1e50 to 1e150: 400, unit 1e150 to 1e290: 210, unit above 1e290: 1000, \
+transfer unit subnormal: 150, transfer unit below 1e-290: 150, transfer unit 1e-290 to 1e-150: 20, \
+transfer unit 1e-150 to 1e-50: 120, transfer unit 1e-50 to 1e50: 1000, transfer unit 1e50 to 1e150: 100, \
+transfer unit 1e150 to 1e290: 25, transfer unit above 1e290: 500, units apart: 350, units apart among every kind: 60, \
+residual rounded to 0: 60, residual subnormal: 500, residual above 1e297: 400, transfer residual rounded to 0: 80, \
+transfer residual subnormal: 200, transfer residual above 1e297: 100, far in seconds: 10000, near in seconds: 1000, \
+transfer far in seconds: 2000, transfer near in seconds: 120, told from no unit: 1800, \
+told from no unit of transfers: 350, told from the first unit: 1100, told from the last unit: 1100, \
+told from the unit before: 1100, told from all units: 1500, told from two products: 1500, \
+told from times in seconds: 1200, told from sums of times: 1500, told from another order: 250, \
+told from the largest gap: 700, overflow by all units: 20, overflow by two products: 250, \
+overflow by times in seconds: 30, overflow by sums of times: 40"
     "write_deck .problems 500 written: 500, solved: 3000, refused 1: 100, refused 2: 100, refused 3: 100, refused 5: 50, \
 refused 6: 50, refused 7: 50, refused 8: 50, refused 9: 32, refused 10: 50, refused 11: 50, deck 40: 10, \
 deck 46: 100, cards 0: 4, cards 1: 100, cards 2: 4, cards 255: 3, cards 256: 6, cards between: 100"

@@ -4,6 +4,7 @@ use crate::answer::Answer;
 use crate::bytes::{u32_at, u64_at};
 use crate::conic::Words;
 use crate::kepler::{self, Input, PROBLEM};
+use crate::times::Times;
 use crate::transfer;
 use crate::universal::functions;
 
@@ -141,6 +142,22 @@ impl Card {
             Err(_) => std::array::from_fn(|i| input.words[4 + i]),
         };
         Card::transfer(input, word(z), velocity)
+    }
+
+    /// The times at the card's x, or z. None where it has neither, or its problem or transfer is refused
+    /// before the first guess.
+    pub fn times(&self) -> Option<Times> {
+        match self.claim {
+            Claim::Solved { x, .. } => {
+                let started = kepler::start(&self.problem).ok()?;
+                Some(started.times(f64::from_bits(x)))
+            }
+            Claim::Transfer { way, z, .. } => {
+                let started = transfer::start(&self.by_way(way)).ok()?;
+                Some(started.times(f64::from_bits(z)))
+            }
+            Claim::Refused { .. } => None,
+        }
     }
 
     /// The card with this body, which has its kind's length.

@@ -5,6 +5,7 @@ use crate::bytes::u32_at;
 use crate::cards::{Claim, Kind};
 use crate::deck::{self, ENTRIES, ENTRY, MOST_CARDS};
 use crate::kepler::PROBLEM;
+use crate::units;
 
 /// Of a listing: the kind and the verdict of each card, or the deck's refusal; and whether the deck
 /// has a transfer, and is refused with it. A listing calls a transfer solved; here it is told apart.
@@ -21,6 +22,7 @@ pub fn listed(deck: &[u8], listing: &[u8]) -> Vec<String> {
     };
     let mut kinds: Vec<String> = listing.lines().filter_map(&mut kind).collect();
     kinds.extend(with_transfer(deck, listing.starts_with("deck ")));
+    kinds.extend(units::kinds(deck, &listing));
     kinds
 }
 

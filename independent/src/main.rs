@@ -40,6 +40,7 @@ mod transfer_decks;
 mod transfer_edges;
 mod transfer_inputs;
 mod unit_cards;
+mod units;
 mod universal;
 mod writer;
 

@@ -6,11 +6,14 @@ use crate::transfer::{placed, Input, Positions, FAR, LONG, OPEN, RECORD, SHORT};
 use std::cmp::Ordering;
 use std::io::{self, Read, Write};
 
+/// A name, and the least number that has it and the least above that has it no more.
+pub type Range = (&'static str, f64, f64);
+
 /// The limits that are counted.
 const LIMITS: [u32; 4] = [1, 2, 20, 100];
 
 /// The ranges of the second radius in parts of the first one that are counted.
-const RATIOS: [(&str, f64, f64); 5] = [
+const RATIOS: [Range; 5] = [
     ("ratio below 1e-9", 0.0, 1e-9),
     ("ratio 1e-3 to 0.1", 1e-3, 0.1),
     ("ratio 0.1 to 10", 0.1, 10.0),
@@ -88,10 +91,15 @@ fn angle(places: &Positions, way: u32) -> String {
 }
 
 fn ratio(places: &Positions) -> Option<String> {
-    let (name, ..) = RATIOS
-        .into_iter()
-        .find(|(_, from, to)| (*from..*to).contains(&places.rho))?;
-    Some(name.to_string())
+    range_of(&RATIOS, places.rho).map(str::to_string)
+}
+
+/// The name of the first range that has this number.
+pub fn range_of(ranges: &[Range], x: f64) -> Option<&'static str> {
+    let (name, ..) = ranges
+        .iter()
+        .find(|(_, from, to)| (*from..*to).contains(&x))?;
+    Some(name)
 }
 
 /// Whether 1 - |c| is on the bound of 50 or beside it, and near which angle. It is below where |c| is
