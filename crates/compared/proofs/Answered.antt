@@ -1,8 +1,8 @@
 -- The tests that the solved cards of both kinds share, both ways: what a card that passes them has, and what passes them (`Passes`). From a fair
 -- bracket the exact gap of the times is at most 2^-36 + 2^-89 (`gap-small`), and a gap of at most 2^-36 passes (`near-enough`). The residual, in
--- seconds, has no minus and is at most 2^988 (`residual-most`).
+-- seconds, has no minus and is at most 2^988 (`residual-most`), and acceptance does not depend on it (`no-seconds`).
 use mathlib.Core.Path.{_≡_, refl, sym}
-use mathlib.Core.Bool.{Bool, true, _&&_}
+use mathlib.Core.Bool.{Bool, true, false, _&&_}
 use Prim.Native.Nat.{ℕ, _≤_}
 use lib.Dec.{T}
 use lib.Ieee.{Float, binary64}
@@ -12,7 +12,7 @@ use Rattle.exact.proofs.Basics.{passed, both}
 use Rattle.exact.proofs.Signs.{Plus}
 use Rattle.exact.proofs.Most.{AtMost}
 use Rattle.exact.proofs.Tolerance.{gap-of-near, near-of-gap}
-use Rattle.rows.specs.Rows.{Checked, pass, must, onward}
+use Rattle.rows.specs.Rows.{Checked, pass, refuse, must, onward, refusalIn}
 use Rattle.rows.proofs.Laws.{pass-once, test-passed, rows-passed, Refuses, passes, must-refuses, onward-refuses}
 use Rattle.search.specs.declared.Bracket.{Bracket}
 use Rattle.search.specs.Search.{within}
@@ -59,6 +59,28 @@ module _ {A : Type 0} (time : Float → Float) (t : Float) (find : Float → Che
   pub answered-refuses : {P : ℕ → Type 0} (unit : Float) → P 20 → P 6 → P 21 → P 22 → ((x : Float) → Refuses P (find x)) → Refuses P (answeredBy time t unit find same b x)
   unfolding foundBy answeredBy
   answered-refuses unit outside lost off other f = onward-refuses _ _ (timed-refuses outside lost off b x (time x) t unit) (λ residual. onward-refuses _ _ (f x) (λ found. must-refuses _ 22 _ other passes))
+
+  -- acceptance reads no seconds: in whatever unit, it is refused with the same number, or accepted
+  pub no-seconds : (unit other : Float) → refusalIn (answeredBy time t unit find same b x) ≡ refusalIn (answeredBy time t other find same b x)
+  unfolding timedBy foundBy answeredBy must onward
+  no-seconds unit other = go (isFinite x && within b x) (isFinite (time x)) (isNear (time x) t)
+    where
+      as-found : (c : Checked A) (r q : Float) → refusalIn (onward c (λ found. must (same found) 22 (pass r))) ≡ refusalIn (onward c (λ found. must (same found) 22 (pass q)))
+      as-found (pass found) r q = compared-by (same found)
+        where
+          compared-by : (u : Bool) → refusalIn (must u 22 (pass r)) ≡ refusalIn (must u 22 (pass q))
+          compared-by true = refl
+          compared-by false = refl
+      as-found (refuse k) r q = refl
+
+      row : (u v w : Bool) (r : Float) → Checked Float
+      row u v w r = onward (must u 20 (must v 6 (must w 21 (pass r)))) (λ residual. foundBy find same x residual)
+
+      go : (u v w : Bool) → refusalIn (row u v w (inSeconds (time x) t unit)) ≡ refusalIn (row u v w (inSeconds (time x) t other))
+      go false v w = refl
+      go true false w = refl
+      go true true false = refl
+      go true true true = as-found (find x) (inSeconds (time x) t unit) (inSeconds (time x) t other)
 
   -- in a unit that is a finite number without a minus, so is the residual, and it is at most 2^988
   pub residual-most : {found : A} (unit : Float) → Plus unit → Passes time t find same b x found → AtMost mostResidual (inSeconds (time x) t unit)

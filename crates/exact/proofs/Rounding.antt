@@ -186,7 +186,7 @@ module _ (f : Format) (a c : ℕ) (y : Float) (h : 0 < c) (w : T (fits f y)) whe
   pub rounded-ge : steps f y * c ≤ a * 2 ^ low f → steps f y ≤ rounded f a c
   rounded-ge l = few-ge f a c (steps f y) h (moved f y w) l
 
-  rounded-exact : a * 2 ^ low f ≡ steps f y * c → rounded f a c ≡ steps f y
+  pub rounded-exact : a * 2 ^ low f ≡ steps f y * c → rounded f a c ≡ steps f y
   rounded-exact e = few-exact f a c (steps f y) h (moved f y w) e
 
 -- ---- what `round` answers
