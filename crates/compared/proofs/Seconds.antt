@@ -7,7 +7,7 @@ use native.Mathlib.Omega.{arith}
 use lib.Dec.{T, lit<}
 use lib.Ieee.{Float, binary64, low}
 use lib.Ieee.Scale.{overflow}
-use Rattle.exact.specs.Numbers.{steps, isNear, inSteps}
+use Rattle.exact.specs.Numbers.{isNear, inSteps}
 use Rattle.exact.proofs.Steps.{steps-lt}
 use Rattle.exact.proofs.Signs.{Plus}
 use Rattle.exact.proofs.Tolerance.{near-most}

@@ -10,7 +10,7 @@ use lib.ListN.{length, length-append}
 use lib.IntN.{pos}
 use lib.Pow.{pow-pos}
 use lib.Ieee.{Float, binary64, low, ofInt}
-use Rattle.exact.specs.Numbers.{_⊘_, steps}
+use Rattle.exact.specs.Numbers.{_⊘_}
 use Rattle.exact.proofs.Zero.{nought-number, nought-steps, nought-plus}
 use Rattle.exact.proofs.Most.{AtMost, whole-steps, add-most, div-most}
 use Rattle.rows.specs.Rows.{pass}
