@@ -1,5 +1,5 @@
--- What a transfer that passes the tests is: the limit is allowed, t is a number and f4 one without a minus, the times of both ends are finite and t lies between them, and
--- the bracket is the starting one.
+-- What a transfer that passes the tests is: the limit is allowed, t is a number and f4 one without a minus, the times of both ends are finite and
+-- t lies between them, and the bracket is the starting one.
 use mathlib.Core.Path.{_≡_, refl, sym, subst}
 use mathlib.Core.Bool.{Bool, true, false, not, _&&_}
 use Prim.Native.Nat.{_≤_}

@@ -12,7 +12,7 @@ use Rattle.exact.proofs.Basics.{passed, both}
 use Rattle.exact.proofs.Signs.{Plus}
 use Rattle.exact.proofs.Most.{AtMost}
 use Rattle.exact.proofs.Tolerance.{gap-of-near, near-of-gap}
-use Rattle.rows.specs.Rows.{Checked, pass, refuse, must, onward, refusalIn}
+use Rattle.rows.specs.Rows.{Checked, pass, refuse, must, onward}
 use Rattle.rows.proofs.Laws.{pass-once, test-passed, rows-passed, Refuses, passes, must-refuses, onward-refuses}
 use Rattle.search.specs.declared.Bracket.{Bracket}
 use Rattle.search.specs.Search.{within}
@@ -46,6 +46,11 @@ module _ {P : ℕ → Type 0} where
 
 -- ---- all of them
 
+-- what is ruled, without the residual
+abbrev pub ruled : Checked Float → Checked (Unit {0})
+ruled (pass residual) = pass tt
+ruled (refuse k) = refuse k
+
 module _ {A : Type 0} (time : Float → Float) (t : Float) (find : Float → Checked A) (same : A → Bool) (b : Bracket) (x : Float) where
   pub answered-is : (unit r : Float) → answeredBy time t unit find same b x ≡ pass r → (found : A) × Passes time t find same b x found × (r ≡ inSeconds (time x) t unit)
   unfolding foundBy answeredBy
@@ -60,15 +65,15 @@ module _ {A : Type 0} (time : Float → Float) (t : Float) (find : Float → Che
   unfolding foundBy answeredBy
   answered-refuses unit outside lost off other f = onward-refuses _ _ (timed-refuses outside lost off b x (time x) t unit) (λ residual. onward-refuses _ _ (f x) (λ found. must-refuses _ 22 _ other passes))
 
-  -- acceptance reads no seconds: in whatever unit, it is refused with the same number, or accepted
-  pub no-seconds : (unit other : Float) → refusalIn (answeredBy time t unit find same b x) ≡ refusalIn (answeredBy time t other find same b x)
+  -- acceptance reads no seconds: in whatever unit, it is accepted, or refused with the same number
+  pub no-seconds : (unit other : Float) → ruled (answeredBy time t unit find same b x) ≡ ruled (answeredBy time t other find same b x)
   unfolding timedBy foundBy answeredBy must onward
   no-seconds unit other = go (isFinite x && within b x) (isFinite (time x)) (isNear (time x) t)
     where
-      as-found : (c : Checked A) (r q : Float) → refusalIn (onward c (λ found. must (same found) 22 (pass r))) ≡ refusalIn (onward c (λ found. must (same found) 22 (pass q)))
+      as-found : (c : Checked A) (r q : Float) → ruled (onward c (λ found. must (same found) 22 (pass r))) ≡ ruled (onward c (λ found. must (same found) 22 (pass q)))
       as-found (pass found) r q = compared-by (same found)
         where
-          compared-by : (u : Bool) → refusalIn (must u 22 (pass r)) ≡ refusalIn (must u 22 (pass q))
+          compared-by : (u : Bool) → ruled (must u 22 (pass r)) ≡ ruled (must u 22 (pass q))
           compared-by true = refl
           compared-by false = refl
       as-found (refuse k) r q = refl
@@ -76,7 +81,7 @@ module _ {A : Type 0} (time : Float → Float) (t : Float) (find : Float → Che
       row : (u v w : Bool) (r : Float) → Checked Float
       row u v w r = onward (must u 20 (must v 6 (must w 21 (pass r)))) (λ residual. foundBy find same x residual)
 
-      go : (u v w : Bool) → refusalIn (row u v w (inSeconds (time x) t unit)) ≡ refusalIn (row u v w (inSeconds (time x) t other))
+      go : (u v w : Bool) → ruled (row u v w (inSeconds (time x) t unit)) ≡ ruled (row u v w (inSeconds (time x) t other))
       go false v w = refl
       go true false w = refl
       go true true false = refl

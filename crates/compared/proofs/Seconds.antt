@@ -1,7 +1,7 @@
--- Residuals in seconds are finite: a difference of at most 2^-36 times a unit below 2^1024 is at most 2^988, and so is each of 256 of them, whose
--- sum is 256 times that at most. Each bound on the way is a binary64 number, so that no rounding leads past it.
+-- A residual is at most 2^988 s: a difference of at most 2^-36, times a unit below 2^1024. Up to 256 times that bound is a binary64 number, so that
+-- sums of as many residuals are not rounded past it.
 use mathlib.Core.Path.{_≡_, refl}
-use Prim.Native.Nat.{ℕ, _*_, _^_, _≤_, _<_}
+use Prim.Native.Nat.{ℕ, _+_, _*_, _^_, _≤_}
 use native.Mathlib.Nat.{le-trans, le-of-eq, le-of-lt, lt-of-le-of-lt, mul-le-mul, mul-le-mul-right, one-mul}
 use native.Mathlib.Omega.{arith}
 use lib.Dec.{T, lit<}
@@ -12,12 +12,12 @@ use Rattle.exact.proofs.Steps.{steps-lt}
 use Rattle.exact.proofs.Signs.{Plus}
 use Rattle.exact.proofs.Tolerance.{near-most}
 use Rattle.exact.proofs.Most.{AtMost, Held, mul-most}
-use Rattle.compared.specs.Compared.{inSeconds, mostResidual}
+use Rattle.compared.specs.Compared.{inSeconds, mostExponent, mostResidual}
 
 -- n times the bound are a binary64 number
 pub times-held : (n : ℕ) → n ≤ 256 → Held (n * mostResidual)
 unfolding mostResidual
-times-held n h = (record { significand = n; places = 2062; few = omega arith; is = refl }, lt-of-le-of-lt (mul-le-mul-right (2 ^ 2062) h) (lit< tt))
+times-held n h = (record { significand = n; places = mostExponent + 1074; few = omega arith; is = refl }, lt-of-le-of-lt (mul-le-mul-right mostResidual h) (lit< tt))
 
 pub held : Held mostResidual
 held = rw (one-mul mostResidual) at (times-held 1 (omega arith))
@@ -29,4 +29,4 @@ bound-is = refl
 pub in-seconds-most : (time t unit : Float) → T (isNear time t) → Plus unit → AtMost mostResidual (inSeconds time t unit)
 in-seconds-most time t unit near u =
     let d = near-most time t near in
-    mul-most _ unit (d .0) u mostResidual held (le-trans (mul-le-mul (d .1) (le-of-lt (steps-lt binary64 unit (u .0 .0)))) (le-of-eq bound-is))
+    mul-most _ unit (d .plus) u mostResidual held (le-trans (mul-le-mul (d .most) (le-of-lt (steps-lt binary64 unit (u .0 .0)))) (le-of-eq bound-is))

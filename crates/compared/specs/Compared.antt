@@ -20,8 +20,11 @@ abbrev pub inSeconds : (time t unit : Float) → Float
 inSeconds time t unit = magnitude (time ⊖ t) ⊗ unit
 
 -- Tally 4: 2^988 s, which no residual is above, in steps of 2^-1074
+abbrev pub mostExponent : ℕ
+mostExponent = 988
+
 unfoldable pub mostResidual : ℕ
-mostResidual = 2 ^ (988 + 1074)
+mostResidual = 2 ^ (mostExponent + 1074)
 
 -- Verdicts 3 to 5 and 14 to 16: 20, 6 and 21, in this order, of the unknown x, the time there and the wanted one, which are scaled; then the residual
 unfoldable pub timedBy : Bracket → (x time t unit : Float) → Checked Float

@@ -22,8 +22,8 @@ pub enum Place {
     Second,
 }
 
-// The unknown x, the time there, the wanted one, and their unit: 20, 6, 21, or the residual. The tests
-// read the scaled times; the residual alone is in seconds.
+// The unknown x, the time there and the wanted one, and the unit of both times: 20, 6, 21, or the
+// residual. The tests read the scaled times; the residual alone is in seconds.
 pub fn time(b: Bracket, x: f64, time: f64, t: f64, unit: f64) -> Timed
     ensures { λ r. ⌜ timing r ≡ timedBy b x time t unit ⌝ }
 {

@@ -6,7 +6,7 @@ use mathlib.Core.List.{List, [], _∷_, _++_}
 use Prim.Native.Nat.{ℕ, zero, suc, _+_, _*_, _^_, _≤_, _<_}
 use native.Mathlib.Nat.{le-trans, le-of-eq, mul-assoc, mul-comm, mul-pos, mul-le-mul-right}
 use native.Mathlib.Omega.{arith}
-use lib.ListN.{length, length-append}
+use lib.ListN.{length, length-append, length-map}
 use lib.IntN.{pos}
 use lib.Pow.{pow-pos}
 use lib.Ieee.{Float, binary64, low, ofInt}
@@ -15,17 +15,20 @@ use Rattle.exact.proofs.Zero.{nought-number, nought-steps, nought-plus}
 use Rattle.exact.proofs.Most.{AtMost, whole-steps, add-most, div-most}
 use Rattle.rows.specs.Rows.{pass}
 use Rattle.rows.proofs.Laws.{pass-once, rows-passed}
-use Rattle.contents.specs.Contents.{mostCards}
+use Rattle.card.specs.Fields.{Card}
+use Rattle.contents.specs.Contents.{mostCards, cardsOf}
+use Rattle.contents.proofs.Sizes.{few-cards}
 use Rattle.ruling.specs.Said.{Said, solved, refused, rejected}
 use Rattle.compared.specs.Compared.{mostResidual}
 use Rattle.compared.proofs.Seconds.{times-held, held}
+use Rattle.verdict.specs.Verdict.{verdictOn}
 use Rattle.deck.specs.declared.Totals.{Totals}
 use Rattle.deck.specs.declared.tally.Running.{Running}
 use Rattle.deck.specs.Tally.{nothing, counted, countedAll, Residuals, known, residualsOf, tallyOf}
-use Rattle.deck.specs.Check.{judgedOf, answerOf}
+use Rattle.deck.specs.Check.{verdictsOf, judgedOf, answerOf}
 use Rattle.deck.proofs.Tallied.{totalOf, totals-add-up, known-is}
 use Rattle.deck.proofs.Accepted.{accepted-means}
-use Rattle.deck.proofs.Worst.{Among, residuals-most, worst-of-a-deck}
+use Rattle.deck.proofs.Worst.{Among, cards-most, worst-of-cards}
 
 -- ---- the sum
 
@@ -38,13 +41,13 @@ unfolding countedAll
 sum-most n [] few s all = s
 sum-most n (solved x ∷ verdicts) few s all =
     let one = all x (inl refl) in
-    let more = add-most (n .sum) x (s .0) (one .0) ((n .solved + 1) * mostResidual) (times-held (n .solved + 1) (omega arith)) (omega (arith, s .1, one .1)) in
+    let more = add-most (n .sum) x (s .plus) (one .plus) ((n .solved + 1) * mostResidual) (times-held (n .solved + 1) (omega arith)) (omega (arith, s .most, one .most)) in
     sum-most (counted n (solved x)) verdicts (omega arith) more (λ r m. all r (inr m))
 sum-most n (refused ∷ verdicts) few s all = sum-most (counted n refused) verdicts (omega arith) s all
 sum-most n (rejected k ∷ verdicts) few s all = sum-most (counted n (rejected k)) verdicts (omega arith) s all
 
 from-nothing : Summed nothing
-from-nothing = ((nought-number, nought-plus), rw nought-steps (omega arith))
+from-nothing = record { plus = (nought-number, nought-plus); most = rw nought-steps (omega arith) }
 
 among-first : (r : Float) (before after : List Said) → Among r before → Among r (before ++ after)
 among-first r (solved x ∷ before) after (inl e) = inl e
@@ -60,48 +63,53 @@ mean-most n few some s =
     let L = 2 ^ low binary64 in
     let w = whole-steps k (omega arith) in
     let over : k * mostResidual * L ≡ mostResidual * (k * L) = ap (λ (z : ℕ). z * L) (mul-comm k mostResidual) ∙ mul-assoc mostResidual k L in
-    div-most (n .sum) (ofInt binary64 (pos k)) (s .0) (w .0) mostResidual held (rw (w .1) (mul-pos (above k some) (pow-pos (low binary64)))) (rw (w .1) (le-trans (mul-le-mul-right L (s .1)) (le-of-eq over)))
+    div-most (n .sum) (ofInt binary64 (pos k)) (s .plus) (w .0) mostResidual held (rw (w .1) (mul-pos (above k some) (pow-pos (low binary64)))) (rw (w .1) (le-trans (mul-le-mul-right L (s .most)) (le-of-eq over)))
   where
     above : (k : ℕ) → (k ≡ 0 → ⊥) → 0 < k
     above zero not = absurd (not refl)
     above (suc k) not = omega arith
 
--- ---- of an accepted deck
+-- ---- of at most 256 cards
 
 solved-few : (verdicts : List Said) → length verdicts ≤ mostCards → countedAll nothing verdicts .solved ≤ mostCards
 solved-few verdicts few = omega (arith, few, totals-add-up verdicts)
 
-pub record Finite (verdicts : List Said) : Type 0 where
-  pub residuals : (r : Float) → Among r verdicts → AtMost mostResidual r
-  pub sums : (before after : List Said) → verdicts ≡ before ++ after → AtMost (mostCards * mostResidual) (countedAll nothing before .sum)
-  pub mean : (mean worst : Float) → residualsOf (countedAll nothing verdicts) ≡ known mean worst → AtMost mostResidual mean
-  pub worst : (mean worst : Float) → residualsOf (countedAll nothing verdicts) ≡ known mean worst → AtMost mostResidual worst
+module _ (cards : List Card) (few : length cards ≤ mostCards) where
+  no-more : length (verdictsOf cards) ≤ mostCards
+  no-more = omega (arith, few, length-map cards (λ (c : Card). verdictOn (c .kind) (c .body)))
 
-pub tally-finite : (deck : List ℕ) (room : ℕ) (verdicts : List Said) → judgedOf deck room ≡ pass verdicts → Finite verdicts
-tally-finite deck room verdicts h =
-    record {
-      residuals = residuals-most deck room verdicts h;
-      sums = λ before after e. up-to before after e;
-      mean = λ mean worst k.
-          let is = known-is (countedAll nothing verdicts) mean worst k in
-          subst (AtMost mostResidual) (is .1) (mean-most (countedAll nothing verdicts) (solved-few verdicts few) (is .0) (sum-most nothing verdicts (omega (arith, few)) from-nothing (residuals-most deck room verdicts h)));
-      worst = λ mean worst k. residuals-most deck room verdicts h worst (worst-of-a-deck deck room verdicts mean worst h k .one-of-them);
-    }
-  where
-    few : length verdicts ≤ mostCards
-    few = let a = accepted-means deck room verdicts h in omega (arith, a .as-many-verdicts, a .few)
+  -- each sum on the way
+  sums-most : (before after : List Said) → verdictsOf cards ≡ before ++ after → AtMost (mostCards * mostResidual) (countedAll nothing before .sum)
+  sums-most before after e =
+      let fewer : length before ≤ mostCards = omega (arith, no-more, ap length e ∙ length-append before after) in
+      let s = sum-most nothing before (omega (arith, fewer)) from-nothing (λ r m. cards-most cards r (subst (Among r) (sym e) (among-first r before after m))) in
+      record { plus = s .plus; most = le-trans (s .most) (mul-le-mul-right mostResidual (solved-few before fewer)) }
 
-    up-to : (before after : List Said) → verdicts ≡ before ++ after → AtMost (mostCards * mostResidual) (countedAll nothing before .sum)
-    up-to before after e =
-        let fewer : length before ≤ mostCards = omega (arith, few, ap length e ∙ length-append before after) in
-        let s = sum-most nothing before (omega (arith, fewer)) from-nothing (λ r m. residuals-most deck room verdicts h r (subst (Among r) (sym e) (among-first r before after m))) in
-        (s .0, le-trans (s .1) (mul-le-mul-right mostResidual (solved-few before fewer)))
+  both-most : (mean worst : Float) → residualsOf (countedAll nothing (verdictsOf cards)) ≡ known mean worst → AtMost mostResidual mean × AtMost mostResidual worst
+  both-most mean worst k =
+      let n = countedAll nothing (verdictsOf cards) in
+      let is = known-is n mean worst k in (
+        subst (AtMost mostResidual) (is .1) (mean-most n (solved-few (verdictsOf cards) no-more) (is .0) (sum-most nothing (verdictsOf cards) (omega (arith, no-more)) from-nothing (cards-most cards))),
+        cards-most cards worst (worst-of-cards cards mean worst k .one-of-them),
+      )
 
--- mean and worst of every deck that is accepted
+-- ---- of every accepted deck
+
+cards-few : (deck : List ℕ) (cards : List Card) → cardsOf deck ≡ pass cards → length cards ≤ mostCards
+cards-few deck cards h = let f = few-cards deck cards h in omega (arith, f .0, f .1)
+
+-- each sum of residuals on the way
+pub sums-finite : (deck : List ℕ) (cards : List Card) → cardsOf deck ≡ pass cards → (before after : List Said) → verdictsOf cards ≡ before ++ after → AtMost (mostCards * mostResidual) (countedAll nothing before .sum)
+sums-finite deck cards h = sums-most cards (cards-few deck cards h)
+
+-- mean and worst of the tally
+pub tally-finite : (deck : List ℕ) (cards : List Card) (mean worst : Float) → cardsOf deck ≡ pass cards → residualsOf (countedAll nothing (verdictsOf cards)) ≡ known mean worst → AtMost mostResidual mean × AtMost mostResidual worst
+tally-finite deck cards mean worst h = both-most cards (cards-few deck cards h) mean worst
+
+-- and of what the check answers
 pub answer-finite : (deck : List ℕ) (room : ℕ) (totals : Totals) (mean worst : Float) → answerOf deck room ≡ pass (totals, known mean worst) → AtMost mostResidual mean × AtMost mostResidual worst
 unfolding answerOf
 answer-finite deck room totals mean worst h =
     let J = rows-passed (judgedOf deck room) (λ verdicts. pass (tallyOf verdicts)) h in
-    let f = tally-finite deck room (J .0) (J .1) in
-    let is : residualsOf (countedAll nothing (J .0)) ≡ known mean worst = ap (λ (t : Totals × Residuals). t .1) (pass-once (J .2)) in
-    (f .mean mean worst is, f .worst mean worst is)
+    let a = accepted-means deck room (J .0) (J .1) in
+    tally-finite deck (a .cards) mean worst (a .cards-are) (sym (ap (λ (v : List Said). tallyOf v .1) (a .verdicts-are)) ∙ ap (λ (t : Totals × Residuals). t .1) (pass-once (J .2)))

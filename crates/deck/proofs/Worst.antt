@@ -98,8 +98,8 @@ worst-is-largest verdicts all some m =
 
 -- ---- in a deck
 
--- the residuals of its cards have no minus and are at most 2^988
-cards-most : (cards : List Card) (r : Float) → Among r (verdictsOf cards) → AtMost mostResidual r
+-- the residuals of cards have no minus and are at most 2^988
+pub cards-most : (cards : List Card) (r : Float) → Among r (verdictsOf cards) → AtMost mostResidual r
 cards-most (c ∷ cards) r m = go (verdictOn (c .kind) (c .body)) refl (cards-most cards r) m
   where
     go : (v : Said) → verdictOn (c .kind) (c .body) ≡ v → (Among r (verdictsOf cards) → AtMost mostResidual r) → Among r (v ∷ verdictsOf cards) → AtMost mostResidual r
@@ -107,9 +107,6 @@ cards-most (c ∷ cards) r m = go (verdictOn (c .kind) (c .body)) refl (cards-mo
     go (solved x) e others (inr m) = others m
     go refused e others m = others m
     go (rejected k) e others m = others m
-
-pub residuals-most : (deck : List ℕ) (room : ℕ) (verdicts : List Said) → judgedOf deck room ≡ pass verdicts → (r : Float) → Among r verdicts → AtMost mostResidual r
-residuals-most deck room verdicts h r m = let a = accepted-means deck room verdicts h in cards-most (a .cards) r (subst (Among r) (a .verdicts-are) m)
 
 -- where a card counts as solved, there is a residual
 some-solved : (n : Running) (verdicts : List Said) → (countedAll n verdicts .solved ≡ n .solved) ⊎ ((r : Float) × Among r verdicts)
@@ -119,12 +116,20 @@ some-solved n (solved x ∷ verdicts) = inr (x, inl refl)
 some-solved n (refused ∷ verdicts) = some-solved (counted n refused) verdicts
 some-solved n (rejected k ∷ verdicts) = some-solved (counted n (rejected k)) verdicts
 
+pub worst-of-cards : (cards : List Card) (mean worst : Float) → residualsOf (countedAll nothing (verdictsOf cards)) ≡ known mean worst → IsLargest (verdictsOf cards) worst
+worst-of-cards cards mean worst k =
+    let w = known-is (countedAll nothing verdicts) mean worst k in
+    subst (IsLargest verdicts) (w .2) (go (w .0) (some-solved nothing verdicts))
+  where
+    verdicts : List Said
+    verdicts = verdictsOf cards
+
+    go : (countedAll nothing verdicts .solved ≡ 0 → ⊥) → (countedAll nothing verdicts .solved ≡ 0) ⊎ ((r : Float) × Among r verdicts) → IsLargest verdicts (countedAll nothing verdicts .worst)
+    go not (inl none) = absurd (not none)
+    go not (inr some) = worst-is-largest verdicts (λ r m. cards-most cards r m .plus) (some .0) (some .1)
+
 pub worst-of-a-deck : (deck : List ℕ) (room : ℕ) (verdicts : List Said) (mean worst : Float) → judgedOf deck room ≡ pass verdicts → residualsOf (countedAll nothing verdicts) ≡ known mean worst → IsLargest verdicts worst
 worst-of-a-deck deck room verdicts mean worst h k =
-    let w = known-is (countedAll nothing verdicts) mean worst k in
-    let all : (r : Float) → Among r verdicts → Plus r = λ r m. residuals-most deck room verdicts h r m .0 in
-    subst (IsLargest verdicts) (w .2) (go (w .0) all (some-solved nothing verdicts))
-  where
-    go : (countedAll nothing verdicts .solved ≡ 0 → ⊥) → ((r : Float) → Among r verdicts → Plus r) → (countedAll nothing verdicts .solved ≡ 0) ⊎ ((r : Float) × Among r verdicts) → IsLargest verdicts (countedAll nothing verdicts .worst)
-    go not all (inl none) = absurd (not none)
-    go not all (inr some) = worst-is-largest verdicts all (some .0) (some .1)
+    let a = accepted-means deck room verdicts h in
+    let is = a .verdicts-are in
+    subst (λ (v : List Said). IsLargest v worst) (sym is) (worst-of-cards (a .cards) mean worst (subst (λ (v : List Said). residualsOf (countedAll nothing v) ≡ known mean worst) is k))

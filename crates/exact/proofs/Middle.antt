@@ -42,8 +42,8 @@ half-within x h plus = div-most x two (h, plus) (two-number, two-plus) (steps bi
 pub middle-forwards : (x : Float) → Number binary64 x → isMinus x ≡ false → T (le nought (middle nought x)) × T (le (middle nought x) x)
 middle-forwards x h plus =
     let w = half-within x h plus in
-    let is : middle nought x ≡ x ⊘ two = ap (λ (z : Float). nought ⊕ z ⊘ two) (less-zero x h plus) ∙ zero-plus (x ⊘ two) (w .0 .0) (w .0 .1) in
-    rw is (plus-le binary64 nought (x ⊘ two) nought-number (w .0 .0) nought-plus (w .0 .1) .1 (rw nought-steps zero-le), plus-le binary64 (x ⊘ two) x (w .0 .0) h (w .0 .1) plus .1 (w .1))
+    let is : middle nought x ≡ x ⊘ two = ap (λ (z : Float). nought ⊕ z ⊘ two) (less-zero x h plus) ∙ zero-plus (x ⊘ two) (w .plus .0) (w .plus .1) in
+    rw is (plus-le binary64 nought (x ⊘ two) nought-number (w .plus .0) nought-plus (w .plus .1) .1 (rw nought-steps zero-le), plus-le binary64 (x ⊘ two) x (w .plus .0) h (w .plus .1) plus .1 (w .most))
 
 -- ---- backwards
 
@@ -79,7 +79,7 @@ module _ (x y : Float) (h : Number binary64 x) (plus : isMinus x ≡ false) (w :
   unfolding rest under unit
   left-over =
       let n = neg-number binary64 x h in
-      add-steps binary64 (neg x) y (n .0) (w .0 .0) ∙ rw (n .1, n .2, plus, w .0 .1) (sum-unlike binary64 true (steps binary64 x) (steps binary64 y) unit (w .1))
+      add-steps binary64 (neg x) y (n .0) (w .plus .0) ∙ rw (n .1, n .2, plus, w .plus .1) (sum-unlike binary64 true (steps binary64 x) (steps binary64 y) unit (w .most))
 
   -- at most what a number z has, if the rest is
   at-most : (z : Float) → Number binary64 z → rest ≤ steps binary64 z → rounded binary64 rest unit ≤ steps binary64 z

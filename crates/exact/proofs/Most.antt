@@ -17,8 +17,9 @@ use Rattle.exact.proofs.Arithmetic.{sum-alike, add-steps, mul-steps, di
 use Rattle.exact.proofs.Signs.{Plus}
 
 -- a finite number without a minus, of at most n steps
-abbrev pub AtMost : ℕ → Float → Type 0
-AtMost n x = Plus x × (steps binary64 x ≤ n)
+pub record AtMost (n : ℕ) (x : Float) : Type 0 where
+  pub plus : Plus x
+  pub most : steps binary64 x ≤ n
 
 -- n steps are a number of binary64: few digits, and below overflow
 abbrev pub Held : ℕ → Type 0
@@ -32,7 +33,7 @@ round-most : (a c n : ℕ) → 0 < c → Held n → a * 2 ^ low binary64 ≤ n *
 round-most a c n C h l =
     let m = few-le binary64 a c n C (h .0) l in
     let v = round-steps binary64 false a c (lt-of-le-of-lt m (h .1)) in
-    (((round-fits binary64 false a c, v .2), v .1), rw (v .0) m)
+    record { plus = ((round-fits binary64 false a c, v .2), v .1); most = rw (v .0) m }
 
 -- a whole number below 2^53 is a number of binary64, and so is what it comes to
 pub whole-steps : (n : ℕ) → n < 2 ^ 53 → Plus (ofInt binary64 (pos n)) × (steps binary64 (ofInt binary64 (pos n)) ≡ n * 2 ^ low binary64)

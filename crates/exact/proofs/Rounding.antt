@@ -155,11 +155,11 @@ module _ (f : Format) (n c : ℕ) (h : 0 < c) where
 -- ---- at a whole number of steps that has no more digits than the format keeps: nothing is nearer, and the order is kept
 
 module _ (f : Format) (a c n : ℕ) (h : 0 < c) (m : Moved f n) where
-  over : (g z n : ℕ) → n ≤ z → distance g n ≤ distance z n → g ≤ z
-  over g z n l d = omega arith
+  over : (g z w : ℕ) → w ≤ z → distance g w ≤ distance z w → g ≤ z
+  over g z w l d = omega arith
 
-  under : (g z n : ℕ) → z ≤ n → distance g n ≤ distance z n → z ≤ g
-  under g z n l d = omega arith
+  under : (g z w : ℕ) → z ≤ w → distance g w ≤ distance z w → z ≤ g
+  under g z w l d = omega arith
 
   few-nearest : distance (rounded f a c * c) (a * 2 ^ low f) ≤ distance (n * c) (a * 2 ^ low f)
   unfolding rounded k off

@@ -71,7 +71,7 @@ pub near-most : (x y : Float) → T (isNear x y) → AtMost (inSteps 36) (magnit
 unfolding isNear
 near-most x y h =
     let p = magnitude-plus (x ⊖ y) (sub-fits binary64 x y, near-difference x y h) in
-    (p, rw tolerance-steps at (plus-le binary64 (magnitude (x ⊖ y)) tolerance (p .0) tolerance-number (p .1) tolerance-plus .0 h))
+    record { plus = p; most = rw tolerance-steps at (plus-le binary64 (magnitude (x ⊖ y)) tolerance (p .0) tolerance-number (p .1) tolerance-plus .0 h) }
 
 next-steps : steps binary64 next ≡ inSteps 36 + (inSteps 89 + inSteps 89)
 unfolding steps ofBits inSteps

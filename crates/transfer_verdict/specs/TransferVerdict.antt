@@ -16,7 +16,7 @@ use Rattle.compared.specs.Compared.{answeredBy, sameWords}
 abbrev pub sameVelocity : List ℕ → Vector → Bool
 sameVelocity body v = sameWords body positionFrom v
 
--- Verdicts 14 to 18: 20, 6, 21, then 6 for the velocity and 22
+-- Verdicts 14 to 18: 20, 6, 21, then 6 for the velocity and 22. Tally 2: the unit is the transfer's own
 unfoldable pub atZ : List ℕ → Scaled → Bracket → Checked Float
 atZ body o b = answeredBy (timeAt o) (o .t) (o .f4) (velocityAt o) (sameVelocity body) b (zOf body)
 

@@ -22,7 +22,7 @@ was-measured k j (measured y) x e = cc
 was-measured k j unusable x e = absurd (true≢false cc)
 was-measured k j rootRefused x e = absurd (true≢false cc)
 
--- of what is measured behind a test and a root: the test holds, and the root was given
+-- where something is measured behind a test and a root, the root was given
 module _ {A : Type 0} (test : Bool) (rest : Float → Measured A) (x : A) where
   rooted-by : (s : root.Said) → afterRoot s rest ≡ measured x → (y : Float) × (s ≡ root.root y) × (rest y ≡ measured x)
   rooted-by (root.root y) e = (y, refl, e)

@@ -26,7 +26,7 @@ use Rattle.transfer_verdict.specs.TransferVerdict.{transferCard}
 abbrev pub sameState : List ℕ → State → Bool
 sameState body state = sameWords body positionFrom (state .r) && sameWords body velocityFrom (state .v)
 
--- Verdicts 3 to 8: 20, 6, 21, then 11 and 6, as at every arrival, and 22
+-- Verdicts 3 to 8: 20, 6, 21, then 11 and 6, as at every arrival, and 22. Tally 2: the unit is the problem's own
 unfoldable pub atX : List ℕ → Scaled → Bracket → Checked Float
 atX body o b = answeredBy (timeAt o) (o .t) (o .f4) (arrivalAt o) (sameState body) b (xOf body)
 
