@@ -28,7 +28,7 @@ typedef struct {
     double (*check)(const uint8_t *deck, size_t length, uint32_t *verdicts, size_t room);
     uint32_t (*write)(const uint8_t *problems, size_t length, uint8_t *buffer, size_t room, size_t *size);
     Answers predicted, transferred;
-    double mean; /* in seconds */
+    double mean; /* of the residuals, in seconds */
     uint8_t buffer[DECK_SIZE];
     size_t size;
     double times[KINDS][ROUNDS];

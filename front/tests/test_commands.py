@@ -179,7 +179,11 @@ class Ran(unittest.TestCase):
         self.assertLessEqual(max(map(len, help.TEXT.split("\n"))), 100)
 
     def test_help_says_seconds(self):
-        for first, said in (("check", "mean and worst in decimals of seconds"), ("show", "mean and worst in seconds")):
+        for first, said in (
+            ("check", "accepted as solved, in seconds, |T - t| times the card's own unit of time"),
+            ("check", "mean and worst in decimals of seconds"),
+            ("show", "mean and worst in seconds"),
+        ):
             (part,) = [part for part in help.TEXT.split("\n\n") if part.startswith(f"{first} prints")]
             self.assertIn(said, " ".join(part.split()))
 

@@ -82,8 +82,9 @@ def ended(mean, worst, solved=1):
 
 
 ZERO = "0000000000000000"
-# A finite number without a minus: the least, the largest subnormal one, the least behind it, 2^988.
-GOOD = (ZERO, "0000000000000001", "000fffffffffffff", "0010000000000000", "7db0000000000000", "7fefffffffffffff")
+# Seconds that there can be: the least, the largest subnormal one, the least behind it, 2^988.
+GOOD = (ZERO, "0000000000000001", "000fffffffffffff", "0010000000000000", "7db0000000000000")
+TOO_MANY = ("7db0000000000001", "7fefffffffffffff")
 NOT_FINITE = ("7ff0000000000000", "7ff0000000000001", "7ff8000000000000", "7fffffffffffffff")
 MINUS = ("8000000000000000", "8000000000000001", "bdb0000000000000", "fff0000000000000", "fff8000000000000")
 NO_WORDS = (
@@ -93,7 +94,7 @@ NO_WORDS = (
 
 
 class Residuals(unittest.TestCase):
-    """Mean and worst: two words of finite numbers without a minus, or none where no card is solved."""
+    """Mean and worst: two words of seconds that there can be, or none where no card is solved."""
 
     def test_words(self):
         for word in GOOD:
@@ -102,7 +103,7 @@ class Residuals(unittest.TestCase):
                 self.assertEqual(listing.read(ended(ZERO, word)).residuals, [0, int(word, 16)])
 
     def test_what_is_refused(self):
-        for word in (*NOT_FINITE, *MINUS, *NO_WORDS):
+        for word in (*TOO_MANY, *NOT_FINITE, *MINUS, *NO_WORDS):
             for lines in (ended(word, ZERO), ended(ZERO, word), ended(word, word)):
                 for text in (lines, lines.replace(b"solved 1", b"solved 0")):
                     with self.subTest(text), self.assertRaises(ValueError):

@@ -85,7 +85,7 @@ const LARGEST: Recipe = Recipe {
     ..WIDE
 };
 
-/// Units of 1e-290 and less.
+/// Units of about 1e-290 and less.
 const SMALLEST: Recipe = Recipe {
     units: [-1074, -964],
     ..WIDE
@@ -194,7 +194,7 @@ fn arc(frame: &Frame, way: u32, chance: &mut Chance) -> Words {
 /// The longest dt there is, or one of the last before it, with the sign that it has.
 fn last_time(words: Words, chance: &mut Chance) -> Words {
     let sign = words[SPAN] & 1 << 63;
-    with(words, SPAN, sign | f64::MAX.to_bits() - chance.below(4))
+    with(words, SPAN, sign | (f64::MAX.to_bits() - chance.below(4)))
 }
 
 fn anywhere(ends: &Ends, chance: &mut Chance) -> f64 {

@@ -1,6 +1,6 @@
 -- The tests that the solved cards of both kinds share, both ways: what a card that passes them has, and what passes them (`Passes`). From a fair
 -- bracket the exact gap of the times is at most 2^-36 + 2^-89 (`gap-small`), and a gap of at most 2^-36 passes (`near-enough`). The residual, in
--- seconds, has no minus and is at most 2^988 (`residual-most`), and acceptance does not depend on it (`no-seconds`).
+-- seconds, has no minus and is at most 2^988 s (`residual-most`), and acceptance does not depend on it (`no-seconds`).
 use mathlib.Core.Path.{_≡_, refl, sym}
 use mathlib.Core.Bool.{Bool, true, false, _&&_}
 use Prim.Native.Nat.{ℕ, _≤_}
@@ -87,7 +87,7 @@ module _ {A : Type 0} (time : Float → Float) (t : Float) (find : Float → Che
       go true true false = refl
       go true true true = as-found (find x) (inSeconds (time x) t unit) (inSeconds (time x) t other)
 
-  -- in a unit that is a finite number without a minus, so is the residual, and it is at most 2^988
+  -- in a unit that is a finite number without a minus, so is the residual, and it is at most 2^988 s
   pub residual-most : {found : A} (unit : Float) → Plus unit → Passes time t find same b x found → AtMost mostResidual (inSeconds (time x) t unit)
   residual-most unit u p = in-seconds-most (time x) t unit (passed (p .near)) u
 

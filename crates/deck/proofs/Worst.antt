@@ -98,7 +98,7 @@ worst-is-largest verdicts all some m =
 
 -- ---- in a deck
 
--- the residuals of cards have no minus and are at most 2^988
+-- the residuals of cards have no minus and are at most 2^988 s
 pub cards-most : (cards : List Card) (r : Float) → Among r (verdictsOf cards) → AtMost mostResidual r
 cards-most (c ∷ cards) r m = go (verdictOn (c .kind) (c .body)) refl (cards-most cards r) m
   where

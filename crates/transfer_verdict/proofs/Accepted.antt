@@ -102,7 +102,7 @@ accepted-means body residual h =
       residual-is = S .7;
     }
 
--- its residual is a finite number without a minus, at most 2^988
+-- its residual is a finite number without a minus, at most 2^988 s
 pub accepted-most : (body : List ℕ) (r : Float) → transferCard body ≡ pass r → AtMost mostResidual r
 accepted-most body r h =
     let S = transfer-is body r h in

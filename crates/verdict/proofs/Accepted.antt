@@ -135,7 +135,7 @@ refused-means body z = refused-tests body .0 (go (refusedCard body) refl)
     go (pass good) e = e
     go (refuse k) e = absurd (zero-accepts kind.Refused body z k (ap asRefused e))
 
--- ---- the residual that is counted: a finite number without a minus, at most 2^988
+-- ---- the residual that is counted: a finite number without a minus, at most 2^988 s
 
 -- no card of kind refused is accepted as solved
 pub never-solved : (body : List ℕ) (r : Float) → verdictOn kind.Refused body ≡ solved r → ⊥
