@@ -1,5 +1,5 @@
 -- What sums, products and quotients of numbers without a minus are at most: no more than n steps, where the exact result is no more and n steps
--- are a number of binary64. So they are finite. And what a count of cards is in binary64: itself.
+-- are a number of binary64. So they are finite. And a whole number below 2^53 is itself in binary64.
 use mathlib.Core.Path.{_≡_, refl, sym, _∙_}
 use mathlib.Core.Bool.{false}
 use Prim.Native.Nat.{ℕ, _+_, _*_, _^_, _≤_, _<_}
@@ -35,7 +35,7 @@ round-most a c n C h l =
     let v = round-steps binary64 false a c (lt-of-le-of-lt m (h .1)) in
     record { plus = ((round-fits binary64 false a c, v .2), v .1); most = rw (v .0) m }
 
--- a whole number below 2^53 is a number of binary64, and so is what it comes to
+-- in binary64 a whole number below 2^53 is itself
 pub whole-steps : (n : ℕ) → n < 2 ^ 53 → Plus (ofInt binary64 (pos n)) × (steps binary64 (ofInt binary64 (pos n)) ≡ n * 2 ^ low binary64)
 unfolding ofInt
 whole-steps n h =
