@@ -62,11 +62,12 @@ Where a line is wrong, or there are more than 256 problems, it says so, and noth
 
 check prints the program's listing to the letter, and only when it is whole. A line for each card:
 'card', its place, 'solved' or 'refused', and the verdict, 0 where it is accepted; a solved transfer
-is listed as 'solved' too. Then the totals; then 'mean' and 'worst' residual of the cards that are
-accepted as solved, in seconds, |T - t| times the card's own unit of time, as words in hex, or
-'none'. Of a deck that is refused, one line: 'deck' and the reason's number. Then, on standard
-error, it says of a deck that is not refused mean and worst in decimals of seconds, or that there is
-neither; and below that what each verdict but 0, or the reason's number, means, a line each.
+is listed as 'solved' too. Then the totals; then 'mean' and 'worst', as words in hex, or 'none': of
+the residuals, in seconds, of the cards that are accepted as solved. A residual is |T - t| times the
+card's own unit of time. Of a deck that is refused, one line: 'deck' and the reason's number. Then,
+on standard error, it says of a deck that is not refused mean and worst in decimals of seconds, or
+that there is neither; and below that what each verdict but 0, or the reason's number, means, a line
+each.
 
 show prints for each card its place, kind and verdict, the problem and the answer, with units, in as
 few digits as read back as the same number; then the totals, and mean and worst in seconds. They and

@@ -7,8 +7,8 @@ from __future__ import annotations
 
 from front import words
 
-# The word of 2^988, the most seconds there are. Above it come larger numbers, infinity, the NaNs, and then
-# all that has a minus.
+# The word of 2^988, the most seconds that a mean or a worst can have (docs/RULES.md, "Tally"). Above it come
+# larger numbers, infinity, the NaNs, and then all that has a minus.
 MOST_SECONDS = 0x7DB0000000000000
 # The word that stands in a card's line, for each kind of card.
 KIND_WORDS = {"solved": "solved", "refused": "refused", "transfer": "solved"}
@@ -82,7 +82,7 @@ def read_residuals(mean: str, worst: str, solved: int) -> list[int]:
 
 
 def read_residual(name: str, line: str) -> int:
-    """The word in the line of that name: a number of seconds that there can be (docs/RULES.md, "Tally")."""
+    """The word in the line of that name."""
     first, word = line.split(" ")
     if first != name or not words.is_hex(word) or int(word, 16) > MOST_SECONDS:
         raise ValueError(f"'{line}' is not the line of {name}")

@@ -73,7 +73,8 @@ class Check(Command):
 
     def test_words_that_can_t_be(self):
         said = "tailfiddle: the program check_deck printed a listing that is not whole\n"
-        for word in ("7ff0000000000000", "7ff8000000000000", "8000000000000000", "3DA2E00000000000", "none"):
+        odd = ("7db0000000000001", "7ff0000000000000", "7ff8000000000000", "8000000000000000", "3DA2E00000000000", "none")
+        for word in odd:
             for mean, worst in ((word, "0" * 16), ("0" * 16, word)):
                 with self.subTest((mean, worst)):
                     self.check_listing(LISTING.format(1, 2, mean, worst), 2, said, "")

@@ -180,7 +180,7 @@ class Ran(unittest.TestCase):
 
     def test_help_says_seconds(self):
         for first, said in (
-            ("check", "accepted as solved, in seconds, |T - t| times the card's own unit of time"),
+            ("check", "the residuals, in seconds, of the cards that are accepted as solved"),
             ("check", "mean and worst in decimals of seconds"),
             ("show", "mean and worst in seconds"),
         ):

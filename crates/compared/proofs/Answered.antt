@@ -46,7 +46,7 @@ module _ {P : ℕ → Type 0} where
 
 -- ---- all of them
 
--- what is ruled, without the residual
+-- accepted, or refused with a number; the residual is left out
 abbrev pub ruled : Checked Float → Checked (Unit {0})
 ruled (pass residual) = pass tt
 ruled (refuse k) = refuse k
@@ -65,7 +65,7 @@ module _ {A : Type 0} (time : Float → Float) (t : Float) (find : Float → Che
   unfolding foundBy answeredBy
   answered-refuses unit outside lost off other f = onward-refuses _ _ (timed-refuses outside lost off b x (time x) t unit) (λ residual. onward-refuses _ _ (f x) (λ found. must-refuses _ 22 _ other passes))
 
-  -- acceptance reads no seconds: in whatever unit, it is accepted, or refused with the same number
+  -- whether a card is accepted, and the number with which it is refused, do not depend on the unit
   pub no-seconds : (unit other : Float) → ruled (answeredBy time t unit find same b x) ≡ ruled (answeredBy time t other find same b x)
   unfolding timedBy foundBy answeredBy must onward
   no-seconds unit other = go (isFinite x && within b x) (isFinite (time x)) (isNear (time x) t)

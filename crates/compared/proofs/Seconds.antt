@@ -14,7 +14,7 @@ use Rattle.exact.proofs.Tolerance.{near-most}
 use Rattle.exact.proofs.Most.{AtMost, Held, mul-most}
 use Rattle.compared.specs.Compared.{inSeconds, mostExponent, mostResidual}
 
--- n times the bound are a binary64 number
+-- n times the bound is a binary64 number
 pub times-held : (n : ℕ) → n ≤ 256 → Held (n * mostResidual)
 unfolding mostResidual
 times-held n h = (record { significand = n; places = mostExponent + 1074; few = omega arith; is = refl }, lt-of-le-of-lt (mul-le-mul-right mostResidual h) (lit< tt))

@@ -19,10 +19,11 @@ use Rattle.compared.specs.declared.Place.the-variants as place
 abbrev pub inSeconds : (time t unit : Float) → Float
 inSeconds time t unit = magnitude (time ⊖ t) ⊗ unit
 
--- Tally 4: 2^988 s, which no residual is above, in steps of 2^-1074
+-- Tally 4: no residual is above 2^988 s
 abbrev pub mostExponent : ℕ
 mostExponent = 988
 
+-- the same in steps of 2^-1074
 unfoldable pub mostResidual : ℕ
 mostResidual = 2 ^ (mostExponent + 1074)
 

@@ -28,7 +28,7 @@ use Rattle.deck.specs.Tally.{nothing, counted, countedAll, Residuals, kn
 use Rattle.deck.specs.Check.{verdictsOf, judgedOf, answerOf}
 use Rattle.deck.proofs.Tallied.{totalOf, totals-add-up, known-is}
 use Rattle.deck.proofs.Accepted.{accepted-means}
-use Rattle.deck.proofs.Worst.{Among, cards-most, worst-of-cards}
+use Rattle.deck.proofs.Worst.{Among, card-residuals-most, worst-of-cards}
 
 -- ---- the sum
 
@@ -82,15 +82,15 @@ module _ (cards : List Card) (few : length cards ≤ mostCards) where
   sums-most : (before after : List Said) → verdictsOf cards ≡ before ++ after → AtMost (mostCards * mostResidual) (countedAll nothing before .sum)
   sums-most before after e =
       let fewer : length before ≤ mostCards = omega (arith, no-more, ap length e ∙ length-append before after) in
-      let s = sum-most nothing before (omega (arith, fewer)) from-nothing (λ r m. cards-most cards r (subst (Among r) (sym e) (among-first r before after m))) in
+      let s = sum-most nothing before (omega (arith, fewer)) from-nothing (λ r m. card-residuals-most cards r (subst (Among r) (sym e) (among-first r before after m))) in
       record { plus = s .plus; most = le-trans (s .most) (mul-le-mul-right mostResidual (solved-few before fewer)) }
 
   both-most : (mean worst : Float) → residualsOf (countedAll nothing (verdictsOf cards)) ≡ known mean worst → AtMost mostResidual mean × AtMost mostResidual worst
   both-most mean worst k =
       let n = countedAll nothing (verdictsOf cards) in
       let is = known-is n mean worst k in (
-        subst (AtMost mostResidual) (is .1) (mean-most n (solved-few (verdictsOf cards) no-more) (is .0) (sum-most nothing (verdictsOf cards) (omega (arith, no-more)) from-nothing (cards-most cards))),
-        cards-most cards worst (worst-of-cards cards mean worst k .one-of-them),
+        subst (AtMost mostResidual) (is .1) (mean-most n (solved-few (verdictsOf cards) no-more) (is .0) (sum-most nothing (verdictsOf cards) (omega (arith, no-more)) from-nothing (card-residuals-most cards))),
+        card-residuals-most cards worst (worst-of-cards cards mean worst k .one-of-them),
       )
 
 -- ---- of every accepted deck

@@ -1,5 +1,5 @@
 -- The worst is the largest: it is one of the residuals, and none is larger. Residuals have no sign, so that their order is that of their
--- steps; the 0 that the tally begins with is no larger than any, and where it stays, a residual is that 0.
+-- steps; the 0 that the tally begins with is no larger than any, and where it stays, a residual is that 0. And none is above 2^988 s.
 use mathlib.Core.Path.{_≡_, refl, sym, _∙_, subst}
 use mathlib.Core.Logic.{_⊎_, inl, inr}
 use mathlib.Core.Bool.{Bool, true, false, cond}
@@ -99,8 +99,8 @@ worst-is-largest verdicts all some m =
 -- ---- in a deck
 
 -- the residuals of cards have no minus and are at most 2^988 s
-pub cards-most : (cards : List Card) (r : Float) → Among r (verdictsOf cards) → AtMost mostResidual r
-cards-most (c ∷ cards) r m = go (verdictOn (c .kind) (c .body)) refl (cards-most cards r) m
+pub card-residuals-most : (cards : List Card) (r : Float) → Among r (verdictsOf cards) → AtMost mostResidual r
+card-residuals-most (c ∷ cards) r m = go (verdictOn (c .kind) (c .body)) refl (card-residuals-most cards r) m
   where
     go : (v : Said) → verdictOn (c .kind) (c .body) ≡ v → (Among r (verdictsOf cards) → AtMost mostResidual r) → Among r (v ∷ verdictsOf cards) → AtMost mostResidual r
     go (solved x) e others (inl same) = subst (AtMost mostResidual) (sym same) (residual-most (c .kind) (c .body) x e)
@@ -126,7 +126,7 @@ worst-of-cards cards mean worst k =
 
     go : (countedAll nothing verdicts .solved ≡ 0 → ⊥) → (countedAll nothing verdicts .solved ≡ 0) ⊎ ((r : Float) × Among r verdicts) → IsLargest verdicts (countedAll nothing verdicts .worst)
     go not (inl none) = absurd (not none)
-    go not (inr some) = worst-is-largest verdicts (λ r m. cards-most cards r m .plus) (some .0) (some .1)
+    go not (inr some) = worst-is-largest verdicts (λ r m. card-residuals-most cards r m .plus) (some .0) (some .1)
 
 pub worst-of-a-deck : (deck : List ℕ) (room : ℕ) (verdicts : List Said) (mean worst : Float) → judgedOf deck room ≡ pass verdicts → residualsOf (countedAll nothing verdicts) ≡ known mean worst → IsLargest verdicts worst
 worst-of-a-deck deck room verdicts mean worst h k =
