@@ -6,18 +6,16 @@ use Prim.Native.Nat.{ℕ, _+_, _*_, _^_, _≤_, _<_, zero-le}
 use native.Mathlib.Nat.{le-trans, le-of-eq, le-of-lt, lt-of-lt-of-le, lt-of-le-of-lt, lt-of-not-le, not-le-of-lt, mul-le-mul-left, lt-of-mul-lt-mul-right}
 use native.Mathlib.Omega.{arith}
 use lib.Dec.{T, T-not, lit<, lit≤}
-use lib.Ieee.{Float, binary64, low, round, lt, le, eq, ofBits}
-use lib.Ieee.Fits.{round-fits}
+use lib.Ieee.{Float, binary64, low, lt, le, eq, ofBits}
 use lib.Ieee.Bits.{ofBits-fits}
 use lib.Ieee.Scale.{overflow}
 use Rattle.exact.specs.Numbers.{_⊘_, numberOf, nought, Number, magnitude, isMinus, steps}
 use Rattle.exact.proofs.Basics.{failed, not-below}
 use Rattle.exact.proofs.Steps.{steps-lt}
-use Rattle.exact.proofs.Rounding.{rounded, rounded-le, round-steps}
 use Rattle.exact.proofs.Order.{plus-le, plus-lt}
-use Rattle.exact.proofs.Arithmetic.{div-steps}
 use Rattle.exact.proofs.Signs.{Plus, magnitude-plus}
-use Rattle.exact.proofs.OneStep.{not-to-zero}
+use Rattle.exact.proofs.Most.{steps-held, div-most}
+use Rattle.exact.proofs.OneStep.{div-some}
 use Rattle.exact.proofs.Zero.{positive-is}
 use Rattle.root.specs.Root.{radicand, sumInSteps, Nearest}
 use Rattle.root.proofs.Whole.{square-le}
@@ -93,21 +91,15 @@ pub record IsFarEnd (x : Float) : Type 0 where
 
 quotient : (r : Float) → Plus r → steps binary64 eighth ≤ steps binary64 r → IsFarEnd (eight ⊘ r)
 quotient r p l =
-    let a = steps binary64 eight in
-    let c = steps binary64 r in
-    let C : 0 < c = lt-of-lt-of-le eighth-pos l in
-    let is : eight ⊘ r ≡ round binary64 false a c = rw (eight-plus .1, p .1) at (div-steps binary64 eight r (eight-plus .0) (p .0) C) in
-    let m : rounded binary64 a c ≤ steps binary64 sixtyFour =
-    rounded-le binary64 a c sixtyFour C (sixtyFour-plus .0 .0) (le-trans (le-of-eq eighth-of-sixtyFour) (mul-le-mul-left (steps binary64 sixtyFour) l)) in
-    let v = round-steps binary64 false a c (lt-of-le-of-lt m (steps-lt binary64 sixtyFour (sixtyFour-plus .0 .0))) in
-    let some : 0 < rounded binary64 a c = not-to-zero a c C (more-than-a-step c (steps-lt binary64 r (p .0 .0))) in
-    let n : Number binary64 (round binary64 false a c) = (round-fits binary64 false a c, v .2) in
-    rw is (record {
+    let C : 0 < steps binary64 r = lt-of-lt-of-le eighth-pos l in
+    let w = div-most eight r eight-plus p (steps binary64 sixtyFour) (steps-held sixtyFour (sixtyFour-plus .0 .0)) C (le-trans (le-of-eq eighth-of-sixtyFour) (mul-le-mul-left (steps binary64 sixtyFour) l)) in
+    let n = w .plus .0 in
+    record {
       number = n;
-      plus = v .1;
-      positive = positive-is (round binary64 false a c) n .1 (v .1, rw (v .0) some);
-      most = plus-le binary64 (round binary64 false a c) sixtyFour n (sixtyFour-plus .0) (v .1) (sixtyFour-plus .1) .1 (rw (v .0) m);
-    })
+      plus = w .plus .1;
+      positive = positive-is (eight ⊘ r) n .1 (w .plus .1, div-some eight r eight-plus p C (more-than-a-step (steps binary64 r) (steps-lt binary64 r (p .0 .0))) (n .1));
+      most = plus-le binary64 (eight ⊘ r) sixtyFour n (sixtyFour-plus .0) (w .plus .1) (sixtyFour-plus .1) .1 (w .most);
+    }
 
 sixtyFour-far : IsFarEnd sixtyFour
 unfolding ofBits lt le eq
