@@ -7,7 +7,7 @@ use Rattle.rows.specs.Rows.{Checked, pass, must, onward}
 use Rattle.search.specs.declared.Bracket.{Bracket}
 use Rattle.search.specs.Search.{limitAllowed}
 use Rattle.vectors.specs.Vectors.{allFinite, dot, over}
-use Rattle.units.specs.Units.{givenFinite, radiusOf, unitOf, rooted, numbered}
+use Rattle.units.specs.Units.{givenTested, radiusOf, unitOf, rooted, numbered}
 use Rattle.arc.specs.declared.Way.{Way}
 use Rattle.arc.specs.declared.Way.the-variants as way
 use Rattle.arc.specs.declared.Transfer.{Transfer}
@@ -74,7 +74,7 @@ startOf o =
 -- 1, 2 and 3, then the tests above
 unfoldable pub entryOf : Transfer → Checked (Scaled × Bracket)
 entryOf q =
-    must (givenFinite (q .mu) (q .r1) (q .r2) (q .dt)) 1
-    (must (lt nought (q .mu)) 2
+    onward (givenTested (λ place. 1) (q .mu) (q .r1) (q .r2) (q .dt)) (λ finite.
+    must (lt nought (q .mu)) 2
     (must (limitAllowed (q .limit)) 3
     (onward (scaledOf q) startOf)))

@@ -10,6 +10,7 @@ use arc::Way;
 use root::Answer;
 use search::Bracket;
 use search::Point;
+use units::Finite;
 use units::Length;
 use units::TimeUnit;
 use vectors::Vector;
@@ -48,7 +49,7 @@ pub fn entry(q: Transfer) -> Start
 {
     let r1 = q.r1;
     let r2 = q.r2;
-    if !units::given(q.mu, r1, r2, q.dt) {
+    if let Finite::NotAt(_) = units::given(q.mu, r1, r2, q.dt) {
         return Start::Refused(Reason::InputNotFinite);
     }
     if !(0.0 < q.mu) {

@@ -5,7 +5,7 @@
 // `specs/`, for every input, NaN and infinities included. The crate assumes nothing.
 use vectors::Vector;
 ghost use mathlib.Core.Path.{_≡_};
-ghost use Rattle.conic.specs.Said.{reasonNumber};
+ghost use Rattle.conic.specs.Said.{reasonNumber, isMeantBy};
 ghost use Rattle.conic.specs.TimeAndRatio.{timeAt};
 
 pub mod unfolding;
@@ -46,9 +46,17 @@ impl Scaled {
     }
 }
 
-// Why a prediction is refused.
+// The number of the first of the eight numbers that a prediction is given; the others' follow.
+const FIRST_INPUT: u32 = 101;
+
+const INPUTS: u32 = 8;
+
+// The number for any of the eight on cards from before each had its own.
+const ANY_INPUT: u32 = 1;
+
+// Why a prediction is refused. A number that is not finite has its place among those given, from 0 on.
 pub enum Reason {
-    InputNotFinite,
+    InputNotFinite(u8),
     MuNotPositive,
     LimitOutOfRange,
     AngleTooLarge,
@@ -69,7 +77,7 @@ impl Reason {
         ensures { λ r. ⌜ r ≡ reasonNumber self ⌝ }
     {
         match self {
-            Reason::InputNotFinite => 1,
+            Reason::InputNotFinite(place) => FIRST_INPUT + place as u32,
             Reason::MuNotPositive => 2,
             Reason::LimitOutOfRange => 3,
             Reason::AngleTooLarge => 4,
@@ -83,6 +91,15 @@ impl Reason {
             Reason::TowardsInfinity => 12,
             Reason::RootRefused => 14,
         }
+    }
+
+    // Whether the number on a refused card means it.
+    pub fn is_meant_by(self, number: u32) -> bool
+        ensures { λ r. ⌜ r ≡ isMeantBy (reasonNumber self) number ⌝ }
+    {
+        let own = self.number();
+        let input = (FIRST_INPUT <= own) & (own < FIRST_INPUT + INPUTS);
+        (own == number) | ((number == ANY_INPUT) & input)
     }
 }
 

@@ -11,14 +11,15 @@ use Rattle.conic.specs.declared.Scaled.{Scaled}
 use Rattle.rows.specs.Rows.{Checked, pass, must, onward}
 use Rattle.search.specs.Search.{limitAllowed}
 use Rattle.vectors.specs.Vectors.{allFinite, multiple, dot, over}
-use Rattle.units.specs.Units.{givenFinite, radiusOf, unitOf, rooted, numbered}
+use Rattle.units.specs.Units.{givenTested, radiusOf, unitOf, rooted, numbered}
+use Rattle.conic.specs.Said.{inputNumber}
 use Rattle.conic.specs.TimeAndRatio.{timeAt}
 
--- 1, then 2, mu ≤ 0: the tests that Kepler and Theta begin with
+-- 101 to 108, then 2, mu ≤ 0: the tests that Kepler and Theta begin with
 unfoldable pub inputsTested : (mu : Float) (r v : Vector) (last : Float) → Checked (Unit {0})
 inputsTested mu r v last =
-    must (givenFinite mu r v last) 1
-    (must (lt nought mu) 2
+    onward (givenTested inputNumber mu r v last) (λ finite.
+    must (lt nought mu) 2
     (pass tt))
 
 -- 2^-20
@@ -84,7 +85,7 @@ bracketedBy o far =
 unfoldable pub startOf : Scaled → Checked (Scaled × Bracket)
 startOf o = onward (farEndOf (o .alpha)) (λ x. bracketedBy o (cond (le nought (o .t)) x (neg x)))
 
--- Kepler: 1, 2, then 3 where the limit is none of 1..100, and the tests above
+-- Kepler: 101 to 108, 2, then 3 where the limit is none of 1..100, and the tests above
 unfoldable pub entryOf : Problem → Checked (Scaled × Bracket)
 entryOf p =
     onward (inputsTested (p .mu) (p .r) (p .v) (p .dt)) (λ good.
@@ -94,7 +95,7 @@ entryOf p =
 abbrev pub largestAngle : Float
 largestAngle = numberOf 0x4019_0000_0000_0000
 
--- Theta: 1, 2, then 4, |a| > 6.25, and the tests above but for t and the far end, which it has not: with dt 0, t is 0
+-- Theta: 101 to 108, 2, then 4, |a| > 6.25, and the tests above but for t and the far end, which it has not: with dt 0, t is 0
 unfoldable pub angleEntryOf : (mu : Float) (r v : Vector) (a : Float) → Checked Scaled
 angleEntryOf mu r v a =
     onward (inputsTested mu r v a) (λ good.

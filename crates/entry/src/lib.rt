@@ -1,6 +1,6 @@
 // The tests before the first guess, in the order of the rules' refusal table, and what they
 // compute on the way: the scaled problem and its starting bracket. docs/RULES.md, From the state to
-// the scaled problem, and refusals 1 to 8 and 14.
+// the scaled problem, and refusals 101 to 108, 2 to 8 and 14.
 //
 // Both public functions are proved and total: each contract is an equation with a definition of
 // `specs/Entry.antt`, for every input, NaN and infinities included. The crate assumes nothing.
@@ -10,6 +10,7 @@ use conic::Scaled;
 use root::Answer;
 use search::Bracket;
 use search::Point;
+use units::Finite;
 use units::Length;
 use units::TimeUnit;
 use vectors::Vector;
@@ -86,8 +87,8 @@ pub fn angle_entry(mu: f64, r: Vector, v: Vector, a: f64) -> Scaling
 fn first_tests(mu: f64, r: Vector, v: Vector, last: f64) -> Inputs
     ensures { λ x. ⌜ passedInputs x ≡ inputsTested mu r v last ⌝ }
 {
-    if !units::given(mu, r, v, last) {
-        return Inputs::Refused(Reason::InputNotFinite);
+    if let Finite::NotAt(place) = units::given(mu, r, v, last) {
+        return Inputs::Refused(Reason::InputNotFinite(place));
     }
     if !(0.0 < mu) {
         return Inputs::Refused(Reason::MuNotPositive);

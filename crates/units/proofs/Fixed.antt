@@ -1,8 +1,8 @@
 -- Each public function's contract has one result: `Learnt` is the contract itself, as Rattle reads it off the source for callers (coincidence's `Fixes`).
 use mathlib.Core.Path.{refl}
 use Rattle.coincidence.specs.Coincidence.{Fixes}
-use Rattle.coincidence.proofs.Laws.{one-result, one-answer}
-use Rattle.units.proofs.Theorems.{length-once, unit-once}
+use Rattle.coincidence.proofs.Laws.{one-answer}
+use Rattle.units.proofs.Theorems.{given-once, length-once, unit-once}
 use Rattle.units.proofs.given.Reads as given
 use Rattle.units.proofs.given.Kinds as given-kinds
 use Rattle.units.proofs.radius.Reads as radius
@@ -11,7 +11,7 @@ use Rattle.units.proofs.time_unit.Reads as time-unit
 use Rattle.units.proofs.time_unit.Kinds as time-unit-kinds
 
 pub given-fixes : Fixes 0 given-kinds.ps given-kinds.r given.Learnt
-given-fixes κs a x y v w p q = (one-result p q, refl)
+given-fixes κs a x y v w p q = (one-answer given-once x y p q, refl)
 
 pub radius-fixes : Fixes 0 radius-kinds.ps radius-kinds.r radius.Learnt
 radius-fixes κs a x y v w p q = (one-answer length-once x y p q, refl)

@@ -1,3 +1,4 @@
+pub mod Places
 pub mod Rooted
 pub mod Refusals
 pub mod Positive

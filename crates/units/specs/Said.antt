@@ -1,10 +1,17 @@
 -- What the answers say. Definitions only.
 use lib.Ieee.{Float}
+use Rattle.rows.specs.Rows.{Checked, pass, refuse}
+use Rattle.units.specs.declared.Finite.{Finite}
+use Rattle.units.specs.declared.Finite.the-variants as finite
 use Rattle.units.specs.declared.Length.{Length}
 use Rattle.units.specs.declared.Length.the-variants as length
 use Rattle.units.specs.declared.TimeUnit.{TimeUnit}
 use Rattle.units.specs.declared.TimeUnit.the-variants as unit
 use Rattle.units.specs.Units.{Measured, measured, unusable, rootRefused}
+
+abbrev pub givenSaid : Finite → Checked (Unit {0})
+givenSaid finite.All = pass tt
+givenSaid (finite.NotAt place) = refuse place
 
 abbrev pub lengthSaid : Length → Measured Float
 lengthSaid (length.Measured r0) = measured r0

@@ -1,18 +1,32 @@
--- The radius of a position and the unit of time: RULES, From the state to the scaled problem 1 to 3, which a transfer shares. What is not
--- usable, and a root that is refused, have no number here: each caller gives them its own. Definitions only.
-use Prim.Native.Nat.{ℕ}
+-- The numbers given, the radius of a position and the unit of time: RULES, From the state to the scaled problem 1 to 3, which a transfer
+-- shares. What is not finite, not usable, or a root that is refused, has no number here: each caller gives it its own. Definitions only.
+use Prim.Native.Nat.{ℕ, _+_}
 use mathlib.Core.Bool.{Bool, cond, _&&_}
+use mathlib.Core.List.{List, [], _∷_}
 use lib.Ieee.{Float, ne}
 use Rattle.exact.specs.Numbers.{_⊗_, _⊘_, nought, isFinite}
 use Rattle.root.specs.Said as root
 use Rattle.root.specs.Root.{rootOf}
-use Rattle.rows.specs.Rows.{Checked, pass, refuse}
+use Rattle.rows.specs.Rows.{Checked, pass, refuse, must}
 use Rattle.vectors.specs.declared.Vector.{Vector}
-use Rattle.vectors.specs.Vectors.{allFinite, dot}
+use Rattle.vectors.specs.Vectors.{dot}
 
--- refusal 1: every number given is finite: mu, two vectors and the time or the angle
-abbrev pub givenFinite : (mu : Float) (a b : Vector) (last : Float) → Bool
-givenFinite mu a b last = isFinite mu && allFinite a && allFinite b && isFinite last
+-- the eight numbers that are given, by their places from 0 on: mu, two vectors, and the time or the angle
+abbrev pub numbersGiven : (mu : Float) (a b : Vector) (last : Float) → List Float
+numbersGiven mu a b last = mu ∷ a .x ∷ a .y ∷ a .z ∷ b .x ∷ b .y ∷ b .z ∷ last ∷ []
+
+-- a test for each number in its turn: it is finite, or the row refuses with the number that the caller gives to its place
+unfoldable pub finiteFrom : (number : ℕ → ℕ) (place : ℕ) → List Float → Checked (Unit {0})
+finiteFrom number place [] = pass tt
+finiteFrom number place (x ∷ rest) = must (isFinite x) (number place) (finiteFrom number (place + 1) rest)
+
+-- refusal 1, or 101 to 108: the first of the eight that is not finite
+abbrev pub givenTested : (number : ℕ → ℕ) (mu : Float) (a b : Vector) (last : Float) → Checked (Unit {0})
+givenTested number mu a b last = finiteFrom number 0 (numbersGiven mu a b last)
+
+-- a place as its own number
+abbrev pub byPlace : ℕ → ℕ
+byPlace place = place
 
 -- neither zero nor NaN nor infinite
 abbrev pub isUsable : Float → Bool

@@ -1,13 +1,20 @@
-// The radius of a position and the unit of time, from which a state and a transfer are scaled.
-// docs/RULES.md, From the state to the scaled problem 1 to 3.
+// The numbers given, and from them the radius of a position and the unit of time, by which a state and
+// a transfer are scaled. docs/RULES.md, From the state to the scaled problem 1 to 3.
 //
 // Every public function is proved and total: its contract is an equation with a definition of
 // `specs/`, for every input, NaN and infinities included. The crate assumes nothing.
 use root::Answer;
 use vectors::Vector;
 ghost use mathlib.Core.Path.{_≡_};
-ghost use Rattle.units.specs.Units.{givenFinite, isUsable, radiusOf, unitOf};
-ghost use Rattle.units.specs.Said.{lengthSaid, unitSaid};
+ghost use lib.ListN.{length};
+ghost use Rattle.units.specs.Units.{byPlace, finiteFrom, givenTested, isUsable, radiusOf, unitOf};
+ghost use Rattle.units.specs.Said.{givenSaid, lengthSaid, unitSaid};
+
+// Every number given is finite; or the first place, from 0 on, of one that is not.
+pub enum Finite {
+    All,
+    NotAt(u8),
+}
 
 // A radius; or it is not usable; or its root was refused.
 pub enum Length {
@@ -23,11 +30,25 @@ pub enum TimeUnit {
     RootRefused,
 }
 
-// Whether every number given is finite: mu, two vectors, and the time or the angle.
-pub fn given(mu: f64, a: Vector, b: Vector, last: f64) -> bool
-    ensures { λ x. ⌜ x ≡ givenFinite mu a b last ⌝ }
+// The eight numbers given, tested by their places: mu, two vectors, and the time or the angle.
+pub fn given(mu: f64, a: Vector, b: Vector, last: f64) -> Finite
+    ensures { λ x. ⌜ givenSaid x ≡ givenTested byPlace mu a b last ⌝ }
 {
-    exact::finite(mu) & vectors::all_finite(a) & vectors::all_finite(b) & exact::finite(last)
+    first_not_finite([mu, a.x, a.y, a.z, b.x, b.y, b.z, last])
+}
+
+fn first_not_finite(numbers: [f64; 8]) -> Finite
+    requires { ⌜ length numbers ≡ 8 ⌝ }
+    ensures { λ x. ⌜ givenSaid x ≡ finiteFrom byPlace 0 numbers ⌝ }
+{
+    let mut place = 0u8;
+    while place < 8 {
+        if !exact::finite(numbers[place as usize]) {
+            return Finite::NotAt(place);
+        }
+        place += 1;
+    }
+    Finite::All
 }
 
 // Neither zero nor NaN nor infinite.

@@ -38,11 +38,11 @@ solvedCard body =
     (onward (entryOf (problemOf body)) (λ e.
     atX body (e .0) (e .1)))
 
--- whether Kepler gives this number
+-- whether Kepler refuses with what this number means
 abbrev pub isRefusedWith : conic.Said → ℕ → Bool
 isRefusedWith (answer.solved x n state) k = false
-isRefusedWith (answer.refused why n) k = eqb why k
-isRefusedWith (answer.refusedWithBracket why n lo hi) k = eqb why k
+isRefusedWith (answer.refused why n) k = conic.isMeantBy why k
+isRefusedWith (answer.refusedWithBracket why n lo hi) k = conic.isMeantBy why k
 
 -- Verdicts 9 to 11: 23 for either spare; 24 where Kepler does not give the card's number; else accepted
 unfoldable pub refusedCard : List ℕ → Checked (Unit {0})

@@ -105,7 +105,7 @@ fn refused(body: &[u8]) -> Verdict
     Verdict::Refused
 }
 
-// Whether the answer is a refusal with this number.
+// Whether the answer is a refusal that this number means.
 fn gives(outcome: Outcome, number: u32) -> bool
     ensures { λ r. ⌜ r ≡ isRefusedWith (conic.said outcome) number ⌝ }
 {
@@ -115,7 +115,7 @@ fn gives(outcome: Outcome, number: u32) -> bool
             count: _,
             state: _,
         } => false,
-        Outcome::Refused(why, _) => why.number() == number,
-        Outcome::RefusedWithBracket(why, _, _, _) => why.number() == number,
+        Outcome::Refused(why, _) => why.is_meant_by(number),
+        Outcome::RefusedWithBracket(why, _, _, _) => why.is_meant_by(number),
     }
 }
