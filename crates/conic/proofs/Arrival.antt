@@ -1,5 +1,5 @@
--- The arrival at x: what a state that passes its tests is, both ways. And the numbers with which it can refuse: each is above 0 and below 100
--- (`Numbered`).
+-- The arrival at x: what a state that passes its tests is, both ways. And the numbers with which it can refuse: 11 and 6 (`arrival-refuses`). Of a
+-- prediction each is above 0 and at most 108 (`Numbered`).
 use mathlib.Core.Path.{_≡_, refl, subst}
 use mathlib.Core.Logic.{_↔_}
 use mathlib.Core.Bool.{true, _&&_}
@@ -12,6 +12,7 @@ use Rattle.rows.proofs.Laws.{pass-once, test-passed, Refuses, passes, must-refu
 use Rattle.conic.specs.declared.State.{State}
 use Rattle.conic.specs.declared.Scaled.{Scaled}
 use Rattle.vectors.specs.Vectors.{allFinite}
+use Rattle.conic.specs.Said.{inputNumber, inputs}
 use Rattle.conic.specs.TimeAndRatio.{ratioAt}
 use Rattle.conic.specs.Unfolding.{leastRatio, arrivalOf, stateAt, arrivalAt}
 
@@ -35,11 +36,16 @@ arrives o x state = (there, λ a. rw (a .allowed, a .state-is, a .finite) refl)
 -- ---- the numbers
 
 abbrev pub Numbered : ℕ → Type 0
-Numbered k = T (ltb 0 k && ltb k 100)
+Numbered k = T (ltb 0 k && ltb k (inputNumber inputs))
 
-pub numbered-is : (k : ℕ) → Numbered k → (0 < k) × (k < 100)
-numbered-is k t = (ltb→lt 0 k (and-l (ltb 0 k) (ltb k 100) t), ltb→lt k 100 (and-r (ltb 0 k) (ltb k 100) t))
+pub numbered-is : (k : ℕ) → Numbered k → (0 < k) × (k < inputNumber inputs)
+numbered-is k t = (ltb→lt 0 k (and-l (ltb 0 k) (ltb k (inputNumber inputs)) t), ltb→lt k (inputNumber inputs) (and-r (ltb 0 k) (ltb k (inputNumber inputs)) t))
 
-pub arrival-refuses : (o : Scaled) (x : Float) → Refuses Numbered (arrivalAt o x)
-unfolding arrivalOf arrivalAt
-arrival-refuses o x = must-refuses _ 11 _ tt (must-refuses _ 6 _ tt passes)
+module _ {P : ℕ → Type 0} (p11 : P 11) (p6 : P 6) (o : Scaled) where
+  pub unfolding-refuses : (u1 u2 ratio : Float) → Refuses P (arrivalOf o u1 u2 ratio)
+  unfolding arrivalOf
+  unfolding-refuses u1 u2 ratio = must-refuses _ 11 _ p11 (must-refuses _ 6 _ p6 passes)
+
+  pub arrival-refuses : (x : Float) → Refuses P (arrivalAt o x)
+  unfolding arrivalAt
+  arrival-refuses x = unfolding-refuses _ _ _

@@ -13,6 +13,8 @@ use Rattle.conic.proofs.Scaled.time_at.Reads as scaled-time-at
 use Rattle.conic.proofs.Scaled.time_at.Kinds as scaled-time-at-kinds
 use Rattle.conic.proofs.Reason.number.Reads as reason-number
 use Rattle.conic.proofs.Reason.number.Kinds as reason-number-kinds
+use Rattle.conic.proofs.Reason.is_meant_by.Reads as reason-is-meant-by
+use Rattle.conic.proofs.Reason.is_meant_by.Kinds as reason-is-meant-by-kinds
 
 pub unfolding-arrive-fixes : Fixes 0 unfolding-arrive-kinds.ps unfolding-arrive-kinds.r unfolding-arrive.Learnt
 unfolding-arrive-fixes κs a x y v w p q = (one-answer arrived-once x y p q, refl)
@@ -28,3 +30,6 @@ scaled-time-at-fixes κs a x y v w p q = (one-result p q, refl)
 
 pub reason-number-fixes : Fixes 0 reason-number-kinds.ps reason-number-kinds.r reason-number.Learnt
 reason-number-fixes κs a x y v w p q = (one-result p q, refl)
+
+pub reason-is-meant-by-fixes : Fixes 0 reason-is-meant-by-kinds.ps reason-is-meant-by-kinds.r reason-is-meant-by.Learnt
+reason-is-meant-by-fixes κs a x y v w p q = (one-result p q, refl)

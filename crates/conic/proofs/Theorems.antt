@@ -2,7 +2,11 @@
 -- one of them has one answer.
 use mathlib.Core.Path.{_≡_, refl, ap}
 use mathlib.Core.List.{List, [], _∷_}
-use Prim.Native.Nat.{ℕ}
+use mathlib.Core.Bool.{true, cond}
+use Prim.Native.Nat.{ℕ, _-_}
+use native.Mathlib.Omega.{arith}
+use lib.Dec.{leb, le→leb}
+use lib.Ieee.Bits.{is-true}
 use lib.ListN.{getD}
 use Rattle.coincidence.specs.Coincidence.{OneToOne}
 use Rattle.coincidence.proofs.Laws.{undone}
@@ -15,13 +19,13 @@ use Rattle.conic.specs.declared.unfolding.Arrival.the-variants as arriva
 use Rattle.rows.specs.Rows.{Checked}
 use Rattle.rows.proofs.Laws.{takenBack}
 use Rattle.search.specs.Answers.{solved, refused, refusedWithBracket}
-use Rattle.conic.specs.Said.{Said, reasonNumber, said, arrived}
+use Rattle.conic.specs.Said.{Said, inputNumber, reasonNumber, said, arrived}
 
--- ---- a reason by its number: a list from 0 on, where the numbers 0 and 13 are no prediction's
+-- ---- a reason by its number: from 101 on by its place, below by a list from 0 on, where 0, 1 and 13 are no prediction's
 abbrev reasons : List Reason
 reasons =
     why.RootRefused
-    ∷ why.InputNotFinite
+    ∷ why.RootRefused
     ∷ why.MuNotPositive
     ∷ why.LimitOutOfRange
     ∷ why.AngleTooLarge
@@ -38,10 +42,16 @@ reasons =
     ∷ []
 
 abbrev reasonOf : ℕ → Reason
-reasonOf k = getD reasons k why.RootRefused
+reasonOf k = cond (leb (inputNumber 0) k) (why.InputNotFinite (k - inputNumber 0)) (getD reasons k why.RootRefused)
+
+input-is : (place : ℕ) → reasonOf (inputNumber place) ≡ why.InputNotFinite place
+input-is place =
+    let from : leb (inputNumber 0) (inputNumber place) ≡ true = is-true _ (le→leb (inputNumber 0) (inputNumber place) (omega arith)) in
+    let back : inputNumber place - inputNumber 0 ≡ place = omega arith in
+    rw (from, back) refl
 
 pub reason-is : (r : Reason) → reasonOf (reasonNumber r) ≡ r
-reason-is why.InputNotFinite = refl
+reason-is (why.InputNotFinite place) = input-is place
 reason-is why.MuNotPositive = refl
 reason-is why.LimitOutOfRange = refl
 reason-is why.AngleTooLarge = refl
