@@ -33,8 +33,10 @@ rest of the turn, round the centre in the other sense.
 The program's own line comes first: 'solved', the guesses made, x (of turn the angle), position
 and velocity, as words in hex; or 'refused', the reason's number, the guesses made and, with 9 and
 10, the last bracket. Below it the same in decimals, and the reason in words; 'why' with its number
-tells more of it. root gives one line for each NUMBER: 'root', the word and its decimal value, or
-'refused' and the reason: 1, it is infinite or not a number; 13, it is below zero.
+tells more of it. Where a number is infinite or not a number, predict and turn say which: 101 is MU,
+and so on to 108, DT or A; transfer says 1. root gives one line for each NUMBER: 'root', the word
+and its decimal value, or 'refused' and the reason: 1, it is infinite or not a number; 13, it is
+below zero.
 
 A transfer's line has z in the place of x, and then the velocity at R1 alone. Below it stands the
 arrival too: the state to which predict comes from R1 with this velocity after DT, and how far that

@@ -152,7 +152,7 @@ def answer_fields(card: words.Card) -> list[tuple[str, str]]:
 
 
 def refusal_text(number: int) -> str:
-    """The number on a refused card, with its reason where a prediction can be refused with it."""
+    """The number on a refused card, with its reason where a refused card can have it."""
     return f"{number}: {page.reason(number) if number in words.REFUSALS else 'no refusal of a prediction'}"
 
 

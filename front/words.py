@@ -38,8 +38,9 @@ ANSWERS = {
     "transfer": struct.Struct("<4Q"),  # z, velocity
 }
 SIZES = {kind: GIVEN.size + answer.size for kind, answer in ANSWERS.items()}
-# The numbers with which a prediction after a time can be refused.
-REFUSALS = frozenset((1, 2, 3, 5, 6, 7, 8, 9, 10, 11, 14))
+# The numbers that a refused card can have: those with which a prediction after a time can be refused, and 1,
+# which a card from before has for each of 101 to 108.
+REFUSALS = frozenset((1, 2, 3, 5, 6, 7, 8, 9, 10, 11, 14, *range(101, 109)))
 MOST_CARDS = 256
 MOST_DECK = HEADER.size + MOST_CARDS * (ENTRY.size + max(SIZES.values()))
 

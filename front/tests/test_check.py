@@ -67,6 +67,11 @@ class Check(Command):
         for lines in ("card 1 refused 0\nsolved 0 refused 1 rejected 0\n", "solved 0 refused 0 rejected 0\n"):
             self.check_listing(f"{lines}mean none\nworst none\n", 0, f"tailfiddle: {NEITHER}\n")
 
+    def test_which_number_is_not_finite(self):
+        text = LISTING.format(1, 2, *["0" * 16] * 2).replace("solved 22", "solved 106")
+        of_106 = "tailfiddle: 106: the velocity's y is NaN or infinite; './tailfiddle why 106' tells more\n"
+        self.check_listing(text, 1, "tailfiddle: mean 0 s, worst 0 s\n" + OF_24 + of_106)
+
     def test_a_refused_deck(self):
         self.check_listing("deck 30\n", 1, "tailfiddle: 30: no whole header; './tailfiddle why 30' tells more\n")
         self.assertEqual(self.order, [1, 2])

@@ -6,7 +6,7 @@ import unittest
 from unittest import mock
 
 from front import answers, commands, help, listing, show, streams, words
-from front.tests.test_words import PROBLEM, REFUSED, SOLVED, TRANSFER, deck_of
+from front.tests.test_words import PROBLEM, REFUSED, SOLVED, TRANSFER, deck_of, refused_with
 
 SHOWN = """\
 card 1: solved; accepted
@@ -46,6 +46,12 @@ card 1: solved transfer; accepted
 1 card: 1 solved, 0 refused, 0 rejected
 mean 0 s, worst 2.615987810513348e+297 s
 """
+# What 101 to 108 name, in order.
+NAMES = (
+    "mu",
+    *(f"the {vector}'s {axis}" for vector in ("position", "velocity") for axis in "xyz"),
+    "the time or the angle",
+)
 LISTING = b"""\
 card 1 solved 0
 card 2 solved 0
@@ -86,8 +92,20 @@ class Show(unittest.TestCase):
 
     def test_a_refusal_and_other_numbers(self):
         self.assertTrue(show.refusal_text(8).startswith("8: beyond"))
-        for number in (0, 4, 22, 40, 99, 4294967295):
+        for number in words.REFUSALS:
+            self.assertNotIn("docs/REFUSALS.md", show.refusal_text(number))
+        for number in (0, 4, 12, 13, 22, 40, 50, 99, 100, 109, 4294967295):
             self.assertEqual(show.refusal_text(number), f"{number}: no refusal of a prediction")
+
+    def test_numbers_that_are_not_finite(self):
+        self.assertEqual(show.refusal_text(1), "1: a number given is NaN or infinite")
+        for number, name in enumerate(NAMES, 101):
+            self.assertEqual(show.refusal_text(number), f"{number}: {name} is NaN or infinite")
+
+    def test_a_solved_card_with_such_a_number(self):
+        (card,) = words.cards(deck_of(SOLVED))
+        title = "card 7: solved; rejected with 108: the time or the angle is NaN or infinite\n"
+        self.assertTrue(show.card_text(7, card, 108).startswith(title))
 
     def test_the_listing_of_another_deck(self):
         said = listing.Listing(None, [("refused", 0)], [0, 1, 0], [])
@@ -125,13 +143,22 @@ class Ran(unittest.TestCase):
             return commands.main(list(texts))
 
     def test_write(self):
-        refused = (2, PROBLEM + bytes(4) + b"\10" + bytes(7))
-        out = deck_of(SOLVED, refused)
+        out = deck_of(SOLVED, refused_with(8))
         with mock.patch("front.problems.read", return_value=[PROBLEM, PROBLEM]):
             self.assertEqual(self.run_with(out, "write", "-", "-"), 1)
         self.assertTrue(self.written.startswith(b"1 " + out))
         self.assertIn(b"tailfiddle: 2 cards written: 1 solved, 1 refused\n", self.written)
         self.assertIn(b"tailfiddle: 1 refused with 8: beyond the far end; './tailfiddle why 8'", self.written)
+
+    def test_write_says_each_refusal(self):
+        with mock.patch("front.problems.read", return_value=[PROBLEM] * 4):
+            out = deck_of(*map(refused_with, (106, 8, 101, 106)))
+            self.assertEqual(self.run_with(out, "write", "-", "-"), 1)
+        _, *said = self.written[len(b"1 " + out) :].decode().splitlines()
+        wanted = ("1 refused with 8: beyond", "1 refused with 101: mu", "2 refused with 106: the velocity's y")
+        for line, begun in zip(said, wanted):
+            self.assertTrue(line.startswith(f"2 tailfiddle: {begun} "), line)
+        self.assertEqual(len(said), 3)
 
     def test_write_all_solved(self):
         with mock.patch("front.problems.read", return_value=[PROBLEM]):
@@ -150,6 +177,23 @@ class Ran(unittest.TestCase):
                 self.written = b""
                 self.assertEqual(self.run_with(output, "write", "-", "-"), 2)
                 self.assertRegex(self.written, rb"^2 tailfiddle: the program write_deck wrote .*\n$")
+
+    def test_why(self):
+        for number, name in enumerate(NAMES, 101):
+            self.written = b""
+            self.assertEqual(commands.main(["why", str(number)]), 0)
+            self.assertTrue(self.written.startswith(f"1 {number}: {name} is NaN or infinite\n- **When**".encode()))
+            self.assertEqual(self.written.count(b"NaN or infinite\n"), 1)
+        self.written = b""
+        self.assertEqual(commands.main(["why", "1"]), 0)
+        for said in (b"1 1: a number given", b"root", b"Transfer: ", b"101 to 108", b"On a refused card 1 means"):
+            self.assertIn(said, self.written)
+
+    def test_why_of_numbers_that_have_no_entry(self):
+        for number in ("100", "109", "0101", "1010"):
+            self.written = b""
+            self.assertEqual(commands.main(["why", number]), 2)
+            self.assertIn(f"has no entry for {number};".encode(), self.written)
 
     def test_wrong_usage(self):
         commands_of_all = "write", "write a", "write a b c", "show", "show a b", "show --problems", "check", "check a b"
@@ -232,6 +276,10 @@ class Answers(unittest.TestCase):
         self.assertEqual(answers.explained("predict", line), rows)
         turned = [rows[0].replace("5", "0", 1), "  angle     1", *rows[3:]]
         self.assertEqual(answers.explained("turn", turned[0]), turned)
+        refused = "refused 106 0"
+        rows = [refused, "  reason    the velocity's y is NaN or infinite"]
+        self.assertEqual(answers.explained("predict", refused), rows)
+        self.assertEqual(answers.explained("turn", refused), rows)
         bracket = f"refused 10 1 {one} 4034000000000000"
         rows = [bracket, "  reason    the limit is reached", "  guesses   1", "  bracket   1 to 20"]
         self.assertEqual(answers.explained("predict", bracket), rows)

@@ -113,7 +113,7 @@ class Rows(unittest.TestCase):
     def test_a_line_alone_is_refused(self):
         for line in (ROOT, ROUNDED, TURNS[0], "root 0", "short", ""):
             self.refuse(line + "\n")
-        for line in ("refused", "refused 7", "refused 13 0", "refused 013"):
+        for line in ("refused", "refused 7", "refused 13 0", "refused 013", "refused 101", "refused 108"):
             self.refuse(line + "\n")
 
     def test_other_words_are_refused(self):

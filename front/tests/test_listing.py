@@ -26,6 +26,10 @@ class Reading(unittest.TestCase):
         self.assertEqual(said.numbers(), [24, 22])
         self.assertEqual(said.status(), 1)
 
+    def test_verdicts_of_three_digits(self):
+        said = listing.read(WHOLE.replace(b"solved 22", b"solved 108"))
+        self.assertEqual((said.cards[2], said.numbers(), said.status()), (("solved", 108), [24, 108], 1))
+
     def test_all_accepted(self):
         said = listing.read(b"card 1 refused 0\nsolved 0 refused 1 rejected 0\nmean none\nworst none\n")
         self.assertEqual((said.numbers(), said.status(), said.residuals), ([], 0, []))

@@ -166,6 +166,11 @@ REFUSED = (2, PROBLEM + struct.pack("<III", 9, 8, 7))
 TRANSFER = (3, struct.pack("<8dII4d", 398600.4418, 7000, 0, 0, 0, 8000, 1000, 1800, 100, 1, 3.5, 1.25, 7.5, 1))
 
 
+def refused_with(number):
+    """A refused card with that number."""
+    return 2, PROBLEM + struct.pack("<III", 0, number, 0)
+
+
 class Decks(unittest.TestCase):
     """The fields are read where the rules put them."""
 
@@ -178,6 +183,11 @@ class Decks(unittest.TestCase):
     def test_a_refused_card(self):
         _, card = words.cards(deck_of(SOLVED, REFUSED))
         self.assertEqual((card.kind, card.refusal, card.spares, card.answer), ("refused", 8, [9, 7], ()))
+
+    def test_the_number_of_a_refused_card(self):
+        for number in (0, 1, 14, 101, 108, 4294967295):
+            (card,) = words.cards(deck_of(refused_with(number)))
+            self.assertEqual((card.refusal, card.spares), (number, [0, 0]))
 
     def test_a_transfer(self):
         _, card, last = words.cards(deck_of(SOLVED, TRANSFER, REFUSED))
