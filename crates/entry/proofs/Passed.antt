@@ -19,8 +19,9 @@ use Rattle.conic.specs.declared.Scaled.{Scaled}
 use Rattle.rows.specs.Rows.{Checked, pass, must, onward}
 use Rattle.search.specs.Search.{limitAllowed}
 use Rattle.vectors.specs.Vectors.{allFinite, multiple, dot, over}
-use Rattle.units.specs.Units.{givenFinite, radiusOf, unitOf, numbered}
+use Rattle.units.specs.Units.{givenTested, radiusOf, unitOf, numbered}
 use Rattle.units.proofs.Positive.{unit-plus}
+use Rattle.conic.specs.Said.{inputNumber}
 use Rattle.conic.specs.TimeAndRatio.{timeAt}
 use Rattle.entry.specs.Entry.{straight, inputsTested, testedBy, scaledBy, scaledOf, farEndOf, startingBracket, bracketedBy, startOf, entryOf}
 use Rattle.rows.proofs.Laws.{pass-once, test-passed, rows-passed}
@@ -96,8 +97,8 @@ pub record Entered (p : Problem) (o : Scaled) (b : Bracket) : Type 0 where
 above-zero : (mu : Float) (r v : Vector) (last : Float) {good : Unit {0}} → inputsTested mu r v last ≡ pass good → T (lt nought mu)
 unfolding inputsTested
 above-zero mu r v last h =
-    let first = test-passed (givenFinite mu r v last) 1 (must (lt nought mu) 2 (pass tt)) h in
-    passed (test-passed (lt nought mu) 2 (pass tt) (first .1) .0)
+    let first = rows-passed (givenTested inputNumber mu r v last) (λ finite. must (lt nought mu) 2 (pass tt)) h in
+    passed (test-passed (lt nought mu) 2 (pass tt) (first .2) .0)
 
 bracketed-is : (o : Scaled) (far : Float) (e : Scaled × Bracket) → bracketedBy o far ≡ pass e → Reaches o far × (e ≡ (o, startingBracket (o .t) (pointAt (timeAt o) far)))
 unfolding bracketedBy

@@ -1,46 +1,97 @@
--- Every number with which an entry refuses is above 0 and below 100 (`Numbered`). Each number stands beside its test, so the laws of rows
--- (`must-refuses`, `onward-refuses`) follow the definitions line by line.
+-- The numbers with which an entry refuses: those of the eight numbers given, at the first that is not finite, and 2 to 8 and 14 (`entry-refuses`,
+-- `angle-entry-refuses`: whatever these have, each refusal's number has). So a refusal with one of 101 to 108 names the first that is not finite,
+-- and that one is refused with its number (`NamesFirst`, `first-refuses`, `first-refuses-angle`). Each number stands beside its test, so the laws of
+-- rows follow the definitions line by line.
+use mathlib.Core.Path.{_≡_, refl}
+use mathlib.Core.Bool.{true}
+use mathlib.Core.List.{List}
+use Prim.Native.Nat.{ℕ}
 use lib.Ieee.{Float, le}
 use Rattle.exact.specs.Numbers.{magnitude}
 use Rattle.vectors.specs.declared.Vector.{Vector}
 use Rattle.conic.specs.declared.Problem.{Problem}
 use Rattle.conic.specs.declared.Scaled.{Scaled}
-use Rattle.entry.specs.Entry.{inputsTested, testedBy, scaledBy, scaledOf, sixtyFourth, farEndOf, bracketedBy, startOf, entryOf}
-use Rattle.units.specs.Units.{radiusOf, unitOf}
+use Rattle.conic.specs.Said.{inputNumber, isInput}
+use Rattle.entry.specs.Entry.{inputsTested, testedBy, scaledBy, scaledOf, sixtyFourth, farEndOf, bracketedBy, startOf, entryOf, angleEntryOf}
+use Rattle.units.specs.Units.{numbersGiven, radiusOf, unitOf}
+use Rattle.units.proofs.Places.{FirstNotFinite, refuses-first, first-refused}
 use Rattle.units.proofs.Refusals.{root-refuses, measure-refuses}
-use Rattle.conic.proofs.Arrival.{Numbered}
+use Rattle.rows.specs.Rows.{refuse, onward}
 use Rattle.rows.proofs.Laws.{Refuses, passes, must-refuses, cond-refuses, onward-refuses}
 
-inputs-refuse : (mu : Float) (r v : Vector) (last : Float) → Refuses Numbered (inputsTested mu r v last)
-unfolding inputsTested
-inputs-refuse mu r v last = must-refuses _ 1 _ tt (must-refuses _ 2 _ tt passes)
+abbrev pub numbersOf : Problem → List Float
+numbersOf p = numbersGiven (p .mu) (p .r) (p .v) (p .dt)
 
-tested-refuses : (q : Float) (o : Scaled) → Refuses Numbered (testedBy q o)
-unfolding testedBy
-tested-refuses q o = must-refuses _ 6 _ tt (must-refuses _ 7 _ tt passes)
+-- what each number has that is not of the eight
+pub record Others (P : ℕ → Type 0) : Type 0 where
+  pub p2 : P 2
+  pub p3 : P 3
+  pub p4 : P 4
+  pub p5 : P 5
+  pub p6 : P 6
+  pub p7 : P 7
+  pub p8 : P 8
+  pub p14 : P 14
 
-scaling-refuses : (r v : Vector) (dt r0 f1 f4 : Float) → Refuses Numbered (scaledBy r v dt r0 f1 f4)
-unfolding scaledBy
-scaling-refuses r v dt r0 f1 f4 = must-refuses _ 6 _ tt (tested-refuses _ _)
+-- and what the eight have, each where it is given
+abbrev pub AtFirst : (P : ℕ → Type 0) → List Float → Type 0
+AtFirst P list = (place : ℕ) → FirstNotFinite list place → P (inputNumber place)
 
-scaled-refuses : (mu : Float) (r v : Vector) (dt : Float) → Refuses Numbered (scaledOf mu r v dt)
-unfolding scaledOf
-scaled-refuses mu r v dt = onward-refuses _ _ (measure-refuses 5 14 (radiusOf r) tt tt) (λ r0. onward-refuses _ _ (measure-refuses 6 14 (unitOf mu r0) tt tt) (λ f. scaling-refuses r v dt r0 (f .0) (f .1)))
+module _ {P : ℕ → Type 0} (o : Others P) where
+  inputs-refuse : (mu : Float) (r v : Vector) (last : Float) → AtFirst P (numbersGiven mu r v last) → Refuses P (inputsTested mu r v last)
+  unfolding inputsTested
+  inputs-refuse mu r v last at-first = onward-refuses _ _ (refuses-first inputNumber (numbersGiven mu r v last) at-first) (λ finite. must-refuses _ 2 _ (o .p2) passes)
 
-far-end-refuses : (alpha : Float) → Refuses Numbered (farEndOf alpha)
-unfolding farEndOf
-far-end-refuses alpha = cond-refuses (le (magnitude alpha) sixtyFourth) _ _ passes (onward-refuses _ _ (root-refuses 14 _ tt) (λ k. passes))
+  tested-refuses : (q : Float) (s : Scaled) → Refuses P (testedBy q s)
+  unfolding testedBy
+  tested-refuses q s = must-refuses _ 6 _ (o .p6) (must-refuses _ 7 _ (o .p7) passes)
 
-bracket-refuses : (o : Scaled) (far : Float) → Refuses Numbered (bracketedBy o far)
-unfolding bracketedBy
-bracket-refuses o far = must-refuses _ 6 _ tt (must-refuses _ 8 _ tt passes)
+  scaling-refuses : (r v : Vector) (dt r0 f1 f4 : Float) → Refuses P (scaledBy r v dt r0 f1 f4)
+  unfolding scaledBy
+  scaling-refuses r v dt r0 f1 f4 = must-refuses _ 6 _ (o .p6) (tested-refuses _ _)
 
-start-refuses : (o : Scaled) → Refuses Numbered (startOf o)
-unfolding startOf
-start-refuses o = onward-refuses _ _ (far-end-refuses (o .alpha)) (λ x. bracket-refuses o _)
+  scaled-refuses : (mu : Float) (r v : Vector) (dt : Float) → Refuses P (scaledOf mu r v dt)
+  unfolding scaledOf
+  scaled-refuses mu r v dt =
+      onward-refuses _ _ (measure-refuses 5 14 (radiusOf r) (o .p5) (o .p14))
+      (λ r0. onward-refuses _ _ (measure-refuses 6 14 (unitOf mu r0) (o .p6) (o .p14)) (λ f. scaling-refuses r v dt r0 (f .0) (f .1)))
 
-pub entry-refuses : (p : Problem) → Refuses Numbered (entryOf p)
-unfolding entryOf
-entry-refuses p =
-    onward-refuses _ _ (inputs-refuse (p .mu) (p .r) (p .v) (p .dt))
-    (λ good. must-refuses _ 3 _ tt (onward-refuses _ _ (scaled-refuses (p .mu) (p .r) (p .v) (p .dt)) start-refuses))
+  far-end-refuses : (alpha : Float) → Refuses P (farEndOf alpha)
+  unfolding farEndOf
+  far-end-refuses alpha = cond-refuses (le (magnitude alpha) sixtyFourth) _ _ passes (onward-refuses _ _ (root-refuses 14 _ (o .p14)) (λ k. passes))
+
+  bracket-refuses : (s : Scaled) (far : Float) → Refuses P (bracketedBy s far)
+  unfolding bracketedBy
+  bracket-refuses s far = must-refuses _ 6 _ (o .p6) (must-refuses _ 8 _ (o .p8) passes)
+
+  start-refuses : (s : Scaled) → Refuses P (startOf s)
+  unfolding startOf
+  start-refuses s = onward-refuses _ _ (far-end-refuses (s .alpha)) (λ x. bracket-refuses s _)
+
+  pub entry-refuses : (p : Problem) → AtFirst P (numbersOf p) → Refuses P (entryOf p)
+  unfolding entryOf
+  entry-refuses p at-first =
+      onward-refuses _ _ (inputs-refuse (p .mu) (p .r) (p .v) (p .dt) at-first)
+      (λ good. must-refuses _ 3 _ (o .p3) (onward-refuses _ _ (scaled-refuses (p .mu) (p .r) (p .v) (p .dt)) start-refuses))
+
+  pub angle-entry-refuses : (mu : Float) (r v : Vector) (a : Float) → AtFirst P (numbersGiven mu r v a) → Refuses P (angleEntryOf mu r v a)
+  unfolding angleEntryOf
+  angle-entry-refuses mu r v a at-first = onward-refuses _ _ (inputs-refuse mu r v a at-first) (λ good. must-refuses _ 4 _ (o .p4) (scaled-refuses mu r v _))
+
+-- ---- the first number that is not finite
+
+inputs-named : (mu : Float) (r v : Vector) (last : Float) (place : ℕ) → FirstNotFinite (numbersGiven mu r v last) place → inputsTested mu r v last ≡ refuse (inputNumber place)
+unfolding inputsTested onward
+inputs-named mu r v last place f = rw (first-refused inputNumber (numbersGiven mu r v last) place f) refl
+
+pub first-refuses : (p : Problem) (place : ℕ) → FirstNotFinite (numbersOf p) place → entryOf p ≡ refuse (inputNumber place)
+unfolding entryOf onward
+first-refuses p place f = rw (inputs-named (p .mu) (p .r) (p .v) (p .dt) place f) refl
+
+pub first-refuses-angle : (mu : Float) (r v : Vector) (a : Float) (place : ℕ) → FirstNotFinite (numbersGiven mu r v a) place → angleEntryOf mu r v a ≡ refuse (inputNumber place)
+unfolding angleEntryOf onward
+first-refuses-angle mu r v a place f = rw (inputs-named mu r v a place f) refl
+
+-- and back: a refusal of one of the eight is of the first that is not finite
+abbrev pub NamesFirst : List Float → ℕ → Type 0
+NamesFirst list k = isInput k ≡ true → (place : ℕ) × (k ≡ inputNumber place) × FirstNotFinite list place

@@ -1,5 +1,5 @@
 -- The numbers given: the row of tests over a list refuses at the first place whose number is not finite, with what the caller gives to that
--- place (`refuses-first`, `first-refused`), and the same row with other numbers refuses at the same place (`renumbered`).
+-- place (`refuses-first`, `first-refused`), and the same row with other numbers refuses at the same place (`given-again`).
 use mathlib.Core.Path.{_≡_, refl, sym, ap, _∙_}
 use mathlib.Core.Bool.{Bool, true, false}
 use mathlib.Core.List.{List, [], _∷_}
@@ -14,7 +14,9 @@ use lib.Ieee.{Float, nan}
 use Rattle.exact.specs.Numbers.{isFinite}
 use Rattle.rows.specs.Rows.{Checked, pass, refuse, must}
 use Rattle.rows.proofs.Laws.{Refuses, passes, refuses}
+use Rattle.units.specs.declared.Finite.{Finite}
 use Rattle.units.specs.Units.{finiteFrom, byPlace}
+use Rattle.units.specs.Said.{givenSaid}
 
 -- the number at this place is not finite, and every one before is
 pub record FirstNotFinite (list : List Float) (place : ℕ) : Type 0 where
@@ -82,11 +84,11 @@ module _ (number : ℕ → ℕ) (list : List Float) where
 
 -- ---- the same row with other numbers
 
-abbrev again : (ℕ → ℕ) → Checked (Unit {0}) → Checked (Unit {0})
+abbrev pub again : (ℕ → ℕ) → Checked (Unit {0}) → Checked (Unit {0})
 again number (pass good) = pass tt
 again number (refuse place) = refuse (number place)
 
-pub renumbered : (number : ℕ → ℕ) (place : ℕ) (list : List Float) → finiteFrom number place list ≡ again number (finiteFrom byPlace place list)
+renumbered : (number : ℕ → ℕ) (place : ℕ) (list : List Float) → finiteFrom number place list ≡ again number (finiteFrom byPlace place list)
 unfolding finiteFrom must
 renumbered number place [] = refl
 renumbered number place (x ∷ rest) = go (renumbered number (place + 1) rest) (isFinite x)
@@ -94,3 +96,7 @@ renumbered number place (x ∷ rest) = go (renumbered number (place + 1) rest) (
     go : finiteFrom number (place + 1) rest ≡ again number (finiteFrom byPlace (place + 1) rest) → (b : Bool) → must b (number place) (finiteFrom number (place + 1) rest) ≡ again number (must b place (finiteFrom byPlace (place + 1) rest))
     go others true = others
     go others false = refl
+
+-- so what `given` answers says what the caller's own row comes to
+pub given-again : (number : ℕ → ℕ) (list : List Float) {a : Finite} (b : Finite) → givenSaid a ≡ finiteFrom byPlace 0 list → a ≡ b → finiteFrom number 0 list ≡ again number (givenSaid b)
+given-again number list b e is = renumbered number 0 list ∙ ap (again number) (sym e ∙ ap givenSaid is)
