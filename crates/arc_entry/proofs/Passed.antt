@@ -16,7 +16,7 @@ use Rattle.rows.proofs.Laws.{pass-once, test-passed, rows-passed}
 use Rattle.search.specs.declared.Bracket.{Bracket}
 use Rattle.search.specs.Search.{limitAllowed}
 use Rattle.vectors.specs.Vectors.{allFinite, dot, over}
-use Rattle.units.specs.Units.{givenFinite, radiusOf, unitOf, numbered}
+use Rattle.units.specs.Units.{givenTested, radiusOf, unitOf, numbered}
 use Rattle.units.proofs.Positive.{unit-plus}
 use Rattle.arc.specs.declared.Transfer.{Transfer}
 use Rattle.arc.specs.declared.Scaled.{Scaled}
@@ -87,11 +87,11 @@ pub record Entered (q : Transfer) (o : Scaled) (b : Bracket) : Type 0 where
 pub entered : (q : Transfer) (o : Scaled) (b : Bracket) → entryOf q ≡ pass (o, b) → Entered q o b
 unfolding entryOf
 entered q o b h =
-    let given = givenFinite (q .mu) (q .r1) (q .r2) (q .dt) in
+    let given = givenTested (λ place. 1) (q .mu) (q .r1) (q .r2) (q .dt) in
     let above = lt nought (q .mu) in
     let row = onward (scaledOf q) startOf in
-    let first = test-passed given 1 (must above 2 (must (limitAllowed (q .limit)) 3 row)) h in
-    let second = test-passed above 2 (must (limitAllowed (q .limit)) 3 row) (first .1) in
+    let first = rows-passed given (λ finite. must above 2 (must (limitAllowed (q .limit)) 3 row)) h in
+    let second = test-passed above 2 (must (limitAllowed (q .limit)) 3 row) (first .2) in
     let third = test-passed (limitAllowed (q .limit)) 3 row (second .1) in
     let range = both (leb 1 (q .limit)) (leb (q .limit) 100) .0 (third .0) in
     let S = rows-passed (scaledOf q) startOf (third .1) in

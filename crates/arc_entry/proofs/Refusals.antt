@@ -6,6 +6,7 @@ use Rattle.arc.specs.declared.Way.{Way}
 use Rattle.arc.specs.declared.Transfer.{Transfer}
 use Rattle.arc.specs.declared.Scaled.{Scaled}
 use Rattle.units.specs.Units.{radiusOf, unitOf}
+use Rattle.units.proofs.Places.{refuses-first}
 use Rattle.units.proofs.Refusals.{root-refuses, measure-refuses}
 use Rattle.rows.proofs.Laws.{Refuses, passes, must-refuses, onward-refuses}
 use Rattle.arc_entry.specs.ArcEntry.{factorOf, scaledBy, scaledFrom, scaledOf, startOf, entryOf}
@@ -46,4 +47,4 @@ module _ {P : ℕ → Type 0} (e : Eight P) where
 
   pub entry-refuses : (q : Transfer) → Refuses P (entryOf q)
   unfolding entryOf
-  entry-refuses q = must-refuses _ 1 _ (e .p1) (must-refuses _ 2 _ (e .p2) (must-refuses _ 3 _ (e .p3) (onward-refuses _ _ (scaled-refuses q) start-refuses)))
+  entry-refuses q = onward-refuses _ _ (refuses-first (λ place. 1) _ (λ place f. e .p1)) (λ finite. must-refuses _ 2 _ (e .p2) (must-refuses _ 3 _ (e .p3) (onward-refuses _ _ (scaled-refuses q) start-refuses)))

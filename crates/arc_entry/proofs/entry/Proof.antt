@@ -5,37 +5,45 @@ use borrow.Author.Needs.{needs}
 use borrow.Author.Tests.{not-true, not-false}
 use lib.Ieee.{lt}
 use Rattle.exact.specs.Numbers.{nought}
-use Rattle.rows.specs.Rows.{must, onward}
-use Rattle.units.specs.Units.{givenFinite}
+use Rattle.rows.specs.Rows.{pass, must, onward}
+use Rattle.units.specs.declared.Finite.{Finite}
+use Rattle.units.specs.declared.Finite.the-variants as finite
+use Rattle.units.specs.Units.{numbersGiven, givenTested}
+use Rattle.units.specs.Said.{givenSaid}
+use Rattle.units.proofs.Places.{again, given-again}
 use Rattle.arc_entry.specs.Said.{passedScaled}
 use Rattle.arc_entry.specs.ArcEntry.{scaledOf, startOf, entryOf}
 use Rattle.arc_entry.proofs.entry.Statement.{statement}
 use Rattle.arc_entry.proofs.entry.Tie as tie
 
+-- what `given` found, in the transfer's own number
+found : (c : tie.After-given) (answer : Finite) → c .given .result ≡ answer → givenTested (λ place. 1) (c .before .before .before .args .q .mu) (c .before .before .before .args .q .r1) (c .before .before .before .args .q .r2) (c .before .before .before .args .q .dt) ≡ again (λ place. 1) (givenSaid answer)
+found c answer is = given-again (λ place. 1) (numbersGiven (c .before .before .before .args .q .mu) (c .before .before .before .args .q .r1) (c .before .before .before .args .q .r2) (c .before .before .before .args .q .dt)) answer (c .given .ensures) is
+
 returns : tie.Need-returns
-unfolding must entryOf
-returns c = rw (sym (c .before .given .ensures) ∙ not-true (c .before .given .result) (c .if1 .taken)) refl
+unfolding onward entryOf
+returns c = rw (found (c .before .before) (finite.NotAt (c .enum-told .given .0 .0)) (c .enum-told .given .1)) refl
 
 -- past the first test every number is finite
-good : (c : tie.Else1) → givenFinite (c .before .before .before .before .args .q .mu) (c .before .before .before .before .args .q .r1) (c .before .before .before .before .args .q .r2) (c .before .before .before .before .args .q .dt) ≡ true
-good c = sym (c .before .given .ensures) ∙ not-false (c .before .given .result) (c .if1 .left)
+good : (c : tie.After-enum-told2) → givenTested (λ place. 1) (c .before .before .before .before .before .args .q .mu) (c .before .before .before .before .before .args .q .r1) (c .before .before .before .before .before .args .q .r2) (c .before .before .before .before .before .args .q .dt) ≡ pass tt
+good c = found (c .before .before) finite.All (c .enum-told2 .given .1)
 
 returns-2 : tie.Need-returns-2
-unfolding must entryOf
-returns-2 c = rw (good (c .before .before), not-true (lt nought (c .before .before .before .before .before .before .args .q .mu)) (c .if2 .taken)) refl
+unfolding must onward entryOf
+returns-2 c = rw (good (c .before .before), not-true (lt nought (c .before .before .before .before .before .before .before .args .q .mu)) (c .if1 .taken)) refl
 
 -- past the second mu is above 0
-above : (c : tie.Else2) → lt nought (c .before .before .before .before .before .before .args .q .mu) ≡ true
-above c = not-false (lt nought (c .before .before .before .before .before .before .args .q .mu)) (c .if2 .left)
+above : (c : tie.Else1) → lt nought (c .before .before .before .before .before .before .before .args .q .mu) ≡ true
+above c = not-false (lt nought (c .before .before .before .before .before .before .before .args .q .mu)) (c .if1 .left)
 
 returns-3 : tie.Need-returns-3
-unfolding must entryOf
-returns-3 c = rw (good (c .before .before .before .before), above (c .before .before), sym (c .before .allows .ensures) ∙ not-true (c .before .allows .result) (c .if3 .taken)) refl
+unfolding must onward entryOf
+returns-3 c = rw (good (c .before .before .before .before), above (c .before .before), sym (c .before .allows .ensures) ∙ not-true (c .before .allows .result) (c .if2 .taken)) refl
 
 -- past the third the scaled transfer is wanted
-left : (c : tie.Else3) → entryOf (c .before .before .before .before .before .before .before .before .args .q) ≡ onward (scaledOf (c .before .before .before .before .before .before .before .before .args .q)) startOf
-unfolding must entryOf
-left c = rw (good (c .before .before .before .before), above (c .before .before), sym (c .before .allows .ensures) ∙ not-false (c .before .allows .result) (c .if3 .left)) refl
+left : (c : tie.Else2) → entryOf (c .before .before .before .before .before .before .before .before .before .args .q) ≡ onward (scaledOf (c .before .before .before .before .before .before .before .before .before .args .q)) startOf
+unfolding must onward entryOf
+left c = rw (good (c .before .before .before .before), above (c .before .before), sym (c .before .allows .ensures) ∙ not-false (c .before .allows .result) (c .if2 .left)) refl
 
 returns-4 : tie.Need-returns-4
 unfolding onward
@@ -46,4 +54,4 @@ unfolding onward
 returns-5 c = rw (left (c .before .before .before .before), sym (c .before .before .before .scale .ensures) ∙ ap passedScaled (c .before .why .given .1)) refl
 
 pub entry-spec : {M : Type 1} → statement M
-entry-spec = tie.close (tie.spec (λ c κs. search needs) returns returns-2 (λ c κs. search needs) returns-3 (λ c κs. search needs) (λ c. search needs) (λ c κs. search needs) (λ c. search needs) returns-4 returns-5)
+entry-spec = tie.close (tie.spec (λ c κs. search needs) (λ c. search needs) returns (λ c. search needs) returns-2 (λ c κs. search needs) returns-3 (λ c κs. search needs) (λ c. search needs) (λ c κs. search needs) (λ c. search needs) returns-4 returns-5)
