@@ -1,18 +1,15 @@
--- The arrival at x: what a state that passes its tests is, both ways. And the numbers with which it can refuse: 11 and 6 (`arrival-refuses`). Of a
--- prediction each is above 0 and at most 108 (`Numbered`).
+-- The arrival at x: what a state that passes its tests is, both ways. And the numbers with which it can refuse: 11 and 6 (`arrival-refuses`:
+-- whatever these have, each refusal's number has).
 use mathlib.Core.Path.{_≡_, refl, subst}
 use mathlib.Core.Logic.{_↔_}
 use mathlib.Core.Bool.{true, _&&_}
-use Prim.Native.Nat.{ℕ, _<_}
-use lib.Dec.{T, ltb, ltb→lt}
+use Prim.Native.Nat.{ℕ}
 use lib.Ieee.{Float, le}
-use lib.Ieee.Fits.{and-l, and-r}
 use Rattle.rows.specs.Rows.{pass, must}
 use Rattle.rows.proofs.Laws.{pass-once, test-passed, Refuses, passes, must-refuses}
 use Rattle.conic.specs.declared.State.{State}
 use Rattle.conic.specs.declared.Scaled.{Scaled}
 use Rattle.vectors.specs.Vectors.{allFinite}
-use Rattle.conic.specs.Said.{inputNumber, inputs}
 use Rattle.conic.specs.TimeAndRatio.{ratioAt}
 use Rattle.conic.specs.Unfolding.{leastRatio, arrivalOf, stateAt, arrivalAt}
 
@@ -34,12 +31,6 @@ arrives o x state = (there, λ a. rw (a .allowed, a .state-is, a .finite) refl)
         record { allowed = first .0; finite = subst (λ (a : State). allFinite (a .r) && allFinite (a .v) ≡ true) is (second .0); state-is = is }
 
 -- ---- the numbers
-
-abbrev pub Numbered : ℕ → Type 0
-Numbered k = T (ltb 0 k && ltb k (inputNumber inputs))
-
-pub numbered-is : (k : ℕ) → Numbered k → (0 < k) × (k < inputNumber inputs)
-numbered-is k t = (ltb→lt 0 k (and-l (ltb 0 k) (ltb k (inputNumber inputs)) t), ltb→lt k (inputNumber inputs) (and-r (ltb 0 k) (ltb k (inputNumber inputs)) t))
 
 module _ {P : ℕ → Type 0} (p11 : P 11) (p6 : P 6) (o : Scaled) where
   pub unfolding-refuses : (u1 u2 ratio : Float) → Refuses P (arrivalOf o u1 u2 ratio)

@@ -1,17 +1,21 @@
 -- The numbers with which an entry refuses: those of the eight numbers given, at the first that is not finite, and 2 to 8 and 14 (`entry-refuses`,
--- `angle-entry-refuses`: whatever these have, each refusal's number has). So a refusal with one of 101 to 108 names the first that is not finite,
--- and that one is refused with its number (`NamesFirst`, `first-refuses`, `first-refuses-angle`). Each number stands beside its test, so the laws of
--- rows follow the definitions line by line.
-use mathlib.Core.Path.{_≡_, refl}
-use mathlib.Core.Bool.{true}
+-- `angle-entry-refuses`: whatever these have, each refusal's number has). So each is above 1 and at most 108 (`Numbered`); one of 101 to 108 names
+-- the first that is not finite (`NamesFirst`), and that one is refused with its number (`first-refuses`, `first-refuses-angle`). Each number stands
+-- beside its test, so the laws of rows follow the definitions line by line.
+use mathlib.Core.Path.{_≡_, refl, sym, _∙_}
+use mathlib.Core.Bool.{true, false, true≢false, _&&_}
 use mathlib.Core.List.{List}
-use Prim.Native.Nat.{ℕ}
+use Prim.Native.Nat.{ℕ, _<_}
+use native.Mathlib.Omega.{arith}
+use lib.Dec.{T, ltb, ltb→lt, lt→ltb}
 use lib.Ieee.{Float, le}
+use lib.Ieee.Fits.{and-l, and-r}
 use Rattle.exact.specs.Numbers.{magnitude}
+use Rattle.exact.proofs.Basics.{passed, both}
 use Rattle.vectors.specs.declared.Vector.{Vector}
 use Rattle.conic.specs.declared.Problem.{Problem}
 use Rattle.conic.specs.declared.Scaled.{Scaled}
-use Rattle.conic.specs.Said.{inputNumber, isInput}
+use Rattle.conic.specs.Said.{inputNumber, inputs, isInput}
 use Rattle.entry.specs.Entry.{inputsTested, testedBy, scaledBy, scaledOf, sixtyFourth, farEndOf, bracketedBy, startOf, entryOf, angleEntryOf}
 use Rattle.units.specs.Units.{numbersGiven, radiusOf, unitOf}
 use Rattle.units.proofs.Places.{FirstNotFinite, refuses-first, first-refused}
@@ -78,6 +82,22 @@ module _ {P : ℕ → Type 0} (o : Others P) where
   unfolding angleEntryOf
   angle-entry-refuses mu r v a at-first = onward-refuses _ _ (inputs-refuse mu r v a at-first) (λ good. must-refuses _ 4 _ (o .p4) (scaled-refuses mu r v _))
 
+-- ---- each is above 1 and at most 108
+
+abbrev pub Numbered : ℕ → Type 0
+Numbered k = T (ltb 1 k && ltb k (inputNumber inputs))
+
+pub numbered-is : (k : ℕ) → Numbered k → (1 < k) × (k < inputNumber inputs)
+numbered-is k t = (ltb→lt 1 k (and-l (ltb 1 k) (ltb k (inputNumber inputs)) t), ltb→lt k (inputNumber inputs) (and-r (ltb 1 k) (ltb k (inputNumber inputs)) t))
+
+pub others-numbered : Others Numbered
+others-numbered = record { p2 = tt; p3 = tt; p4 = tt; p5 = tt; p6 = tt; p7 = tt; p8 = tt; p14 = tt }
+
+pub first-numbered : (mu : Float) (r v : Vector) (last : Float) → AtFirst Numbered (numbersGiven mu r v last)
+first-numbered mu r v last place f =
+    let k = inputNumber place in
+    passed (both (ltb 1 k) (ltb k (inputNumber inputs)) .1 (lt→ltb 1 k (omega arith), lt→ltb k (inputNumber inputs) (omega (arith, f .inside))))
+
 -- ---- the first number that is not finite
 
 inputs-named : (mu : Float) (r v : Vector) (last : Float) (place : ℕ) → FirstNotFinite (numbersGiven mu r v last) place → inputsTested mu r v last ≡ refuse (inputNumber place)
@@ -95,3 +115,13 @@ first-refuses-angle mu r v a place f = rw (inputs-named mu r v a place f) refl
 -- and back: a refusal of one of the eight is of the first that is not finite
 abbrev pub NamesFirst : List Float → ℕ → Type 0
 NamesFirst list k = isInput k ≡ true → (place : ℕ) × (k ≡ inputNumber place) × FirstNotFinite list place
+
+-- no other number is of the eight
+pub no-input : {list : List Float} (k : ℕ) → isInput k ≡ false → NamesFirst list k
+no-input k e h = absurd (true≢false (sym h ∙ e))
+
+pub others-name : (list : List Float) → Others (NamesFirst list)
+others-name list = record { p2 = no-input 2 refl; p3 = no-input 3 refl; p4 = no-input 4 refl; p5 = no-input 5 refl; p6 = no-input 6 refl; p7 = no-input 7 refl; p8 = no-input 8 refl; p14 = no-input 14 refl }
+
+pub first-names : (list : List Float) → AtFirst (NamesFirst list) list
+first-names list place f h = (place, refl, f)

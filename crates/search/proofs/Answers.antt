@@ -63,6 +63,11 @@ IfNamed P (refusedWithBracket k n lo hi) = P k n lo hi
 
 -- ---- at the end of a search
 
+-- what is found, or refused there, has the number of the refusal
+pub found-numbered : {A : Type 0} {P : ℕ → Type 0} (Q : ℕ → Type 0) (x : Float) (n : ℕ) (c : Checked A) → Refuses P c → RefusalHas P Q (withFound x n c)
+found-numbered Q x n (pass found) r = tt
+found-numbered Q x n (refuse k) r = refusal-has r refl
+
 module _ {A : Type 0} (find : Float → Checked A) where
   found-count : (x : Float) (n : ℕ) (c : Checked A) → guessesIn (withFound x n c) ≡ n
   found-count x n (pass found) = refl
@@ -75,12 +80,8 @@ module _ {A : Type 0} (find : Float → Checked A) where
   end-count (end.lost n) = refl
 
   module _ {P : ℕ → Type 0} (Q : ℕ → Type 0) where
-    found-numbered : (x : Float) (n : ℕ) (c : Checked A) → Refuses P c → RefusalHas P Q (withFound x n c)
-    found-numbered x n (pass found) r = tt
-    found-numbered x n (refuse k) r = refusal-has r refl
-
     end-numbered : P 6 → Q 9 → Q 10 → ((x : Float) → Refuses P (find x)) → (e : end.Ending) → RefusalHas P Q (answerOf find e)
-    end-numbered six nine ten r (end.solved x n) = found-numbered x n (find x) (r x)
+    end-numbered six nine ten r (end.solved x n) = found-numbered Q x n (find x) (r x)
     end-numbered six nine ten r (end.closed b n) = nine
     end-numbered six nine ten r (end.spent b n) = ten
     end-numbered six nine ten r (end.lost n) = six
