@@ -19,7 +19,7 @@ use Rattle.rows.specs.Rows.{Checked, pass}
 use Rattle.search.specs.Answers as answer
 use Rattle.conic.specs.Said as conic
 use Rattle.conic.specs.Unfolding.{stateAt}
-use Rattle.conic.proofs.Arrival.{Numbered, numbered-is, Arrives, arrives}
+use Rattle.conic.proofs.Arrival.{Arrives, arrives}
 use Rattle.conic.proofs.Fitting.{StateFits, state-fits}
 use Rattle.vectors.specs.declared.Vector.{Vector}
 use Rattle.arc.specs.declared.Transfer.{Transfer}
@@ -27,7 +27,9 @@ use Rattle.lambert.specs.Lambert.{lambertOf}
 use Rattle.transfer_verdict.proofs.Made as transfer
 use Rattle.kepler.specs.Kepler.{keplerOf}
 use Rattle.search.proofs.Answers.{RefusalHas}
-use Rattle.kepler.proofs.Laws.{refusal-numbered, IsSolved, solved-means}
+use Rattle.entry.proofs.Refusals.{numbersOf, Numbered, numbered-is, first-numbered}
+use Rattle.units.proofs.Places.{FirstNotFinite}
+use Rattle.kepler.proofs.Laws.{refusal-numbered, first-named, IsSolved, solved-means}
 use Rattle.card.specs.declared.Kind.the-variants as kind
 use Rattle.card.specs.Fields.{problemSize, transferSize, transferOf, spareSize, answerAt, problemOf, spareOf, xOf, refusalOf, lastSpareOf}
 use Rattle.card.specs.Made.{numbersBytes, spare, solvedNumbers, solvedBody, transferBody, refusedBody, cardFor}
@@ -95,20 +97,30 @@ module _ (given : List ℕ) (sized : length given ≡ problemSize) where
 
   -- ---- a refused one
 
+  means-itself : (k : ℕ) → conic.isMeantBy k k ≡ true
+  means-itself k = rw (is-true (eqb k k) (eqb-refl k)) refl
+
+  refusal-read : (k : ℕ) → Numbered k → refusalOf (refusedBody given k) ≡ k
+  refusal-read k small = behind-spare (bytesOf 4 k ++ spare) 4 0 ∙ valueAt-bytes 4 k spare (omega (arith, numbered-is k small .1))
+
   refused-made : (k : ℕ) → Numbered k → isRefusedWith (keplerOf (problemOf given)) k ≡ true → numberIn (verdictOn kind.Refused (refusedBody given k)) ≡ 0
   unfolding verdictOn
   refused-made k small e =
-      let number : refusalOf (refusedBody given k) ≡ k = behind-spare (bytesOf 4 k ++ spare) 4 0 ∙ valueAt-bytes 4 k spare (omega (arith, numbered-is k small .1)) in
       let last : lastSpareOf (refusedBody given k) ≡ 0 = behind-spare (bytesOf 4 k ++ spare) spareSize 4 ∙ rw length-bytes at (valueAt-last spareSize 0 (bytesOf 4 k) (omega arith)) in
-      ap (λ (c : Checked (Unit {0})). numberIn (asRefused c)) (refused-tests (refusedBody given k) .1 (spare-is _, last, rw (given-problem given sized _, number) e))
+      ap (λ (c : Checked (Unit {0})). numberIn (asRefused c)) (refused-tests (refusedBody given k) .1 (spare-is _, last, rw (given-problem given sized _, refusal-read k small) e))
 
   pub made-passes : numberIn (verdictOn (cardFor given (keplerOf (problemOf given)) .kind) (cardFor given (keplerOf (problemOf given)) .body)) ≡ 0
   made-passes = go (keplerOf (problemOf given)) refl
     where
       go : (s : conic.Said) → keplerOf (problemOf given) ≡ s → numberIn (verdictOn (cardFor given s .kind) (cardFor given s .body)) ≡ 0
       go (answer.solved x n state) e = solved-made x state (solved-means (problemOf given) x n state e)
-      go (answer.refused k n) e = refused-made k (subst (RefusalHas Numbered Numbered) e (refusal-numbered (problemOf given))) (rw e (is-true (eqb k k) (eqb-refl k)))
-      go (answer.refusedWithBracket k n lo hi) e = refused-made k (subst (RefusalHas Numbered Numbered) e (refusal-numbered (problemOf given))) (rw e (is-true (eqb k k) (eqb-refl k)))
+      go (answer.refused k n) e = refused-made k (subst (RefusalHas Numbered Numbered) e (refusal-numbered (problemOf given))) (rw e (means-itself k))
+      go (answer.refusedWithBracket k n lo hi) e = refused-made k (subst (RefusalHas Numbered Numbered) e (refusal-numbered (problemOf given))) (rw e (means-itself k))
+
+  -- ---- of a number that is not finite: the card has its number
+
+  pub made-names : (place : ℕ) → FirstNotFinite (numbersOf (problemOf given)) place → let made = cardFor given (keplerOf (problemOf given)) in (made .kind ≡ kind.Refused) × (refusalOf (made .body) ≡ conic.inputNumber place)
+  made-names place f = rw (first-named (problemOf given) place f) (refl, refusal-read (conic.inputNumber place) (first-numbered _ _ _ _ place f))
 
 -- ---- a solved transfer: each that we solve, made into a card
 

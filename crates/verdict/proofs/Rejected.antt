@@ -1,15 +1,19 @@
--- A rejected card has a verdict that is above 0 and below 100: so is every number with which a test of a card refuses, the problem's own
--- refusals and those of an arrival among them.
+-- A rejected card has a verdict that is above 0 and at most 108: so is every number with which a test of a card refuses, the problem's own
+-- refusals and those of an arrival among them. Of refused cards and solved transfers each is below 100.
 use mathlib.Core.Path.{_≡_, ap}
 use mathlib.Core.List.{List}
+use mathlib.Core.Bool.{_&&_}
 use Prim.Native.Nat.{ℕ, _<_}
 use native.Mathlib.Omega.{arith}
+use lib.Dec.{T, ltb, ltb→lt}
+use lib.Ieee.Fits.{and-l, and-r}
 use Rattle.search.specs.declared.Bracket.{Bracket}
 use Rattle.conic.specs.declared.Scaled.{Scaled}
 use Rattle.rows.specs.Rows.{refuse}
 use Rattle.rows.proofs.Laws.{Refuses, passes, must-refuses, onward-refuses, refusal-has}
-use Rattle.conic.proofs.Arrival.{Numbered, numbered-is, arrival-refuses}
-use Rattle.entry.proofs.Refusals.{entry-refuses}
+use Rattle.conic.specs.Said.{inputNumber, inputs}
+use Rattle.conic.proofs.Arrival.{arrival-refuses}
+use Rattle.entry.proofs.Refusals.{entry-refuses, Numbered, numbered-is, others-numbered, first-numbered}
 use Rattle.card.specs.declared.Kind.{Kind}
 use Rattle.card.specs.declared.Kind.the-variants as kind
 use Rattle.arc_entry.proofs.Refusals.{Eight}
@@ -23,26 +27,44 @@ use Rattle.verdict.specs.Verdict.{sameState, atX, solvedCard, refusedCar
 
 at-x-refuses : (body : List ℕ) (o : Scaled) (b : Bracket) → Refuses Numbered (atX body o b)
 unfolding atX
-at-x-refuses body o b = answered-refuses _ (o .t) _ (sameState body) b (xOf body) (o .f4) tt tt tt tt (arrival-refuses o)
+at-x-refuses body o b = answered-refuses _ (o .t) _ (sameState body) b (xOf body) (o .f4) tt tt tt tt (arrival-refuses tt tt o)
 
 solved-refuses : (body : List ℕ) → Refuses Numbered (solvedCard body)
 unfolding solvedCard
-solved-refuses body = must-refuses _ 23 _ tt (onward-refuses _ _ (entry-refuses (problemOf body)) (λ e. at-x-refuses body (e .0) (e .1)))
+solved-refuses body = must-refuses _ 23 _ tt (onward-refuses _ _ (entry-refuses others-numbered (problemOf body) (first-numbered _ _ _ _)) (λ e. at-x-refuses body (e .0) (e .1)))
 
-refused-refuses : (body : List ℕ) → Refuses Numbered (refusedCard body)
+-- ---- of two digits at most, where the problem's own refusal is not told
+
+abbrev Small : ℕ → Type 0
+Small k = T (ltb 0 k && ltb k 100)
+
+small-is : (k : ℕ) → Small k → (0 < k) × (k < 100)
+small-is k t = (ltb→lt 0 k (and-l (ltb 0 k) (ltb k 100) t), ltb→lt k 100 (and-r (ltb 0 k) (ltb k 100) t))
+
+refused-refuses : (body : List ℕ) → Refuses Small (refusedCard body)
 unfolding refusedCard
 refused-refuses body = must-refuses _ 23 _ tt (must-refuses _ 24 _ tt passes)
 
+pub rejected-refusal : (body : List ℕ) (n : ℕ) → verdictOn kind.Refused body ≡ rejected n → (0 < n) × (n < 100)
+unfolding verdictOn
+rejected-refusal body n e = small-is n (refusal-has (refused-refuses body) (as-refused (refusedCard body) n e))
+
 -- the eight numbers of a transfer are such too
-eight : Eight Numbered
+eight : Eight Small
 eight = record { p1 = tt; p2 = tt; p3 = tt; p5 = tt; p6 = tt; p50 = tt; p51 = tt; p52 = tt }
 
--- the number of a rejected card is above 0 and below 100
-pub rejected-numbered : (k : Kind) (body : List ℕ) (n : ℕ) → verdictOn k body ≡ rejected n → (0 < n) × (n < 100)
+rejected-transfer : (body : List ℕ) (n : ℕ) → verdictOn kind.Transfer body ≡ rejected n → (0 < n) × (n < 100)
 unfolding verdictOn
-rejected-numbered kind.Solved body n e = numbered-is n (refusal-has (solved-refuses body) (as-solved (solvedCard body) (refuse n) e))
-rejected-numbered kind.Refused body n e = numbered-is n (refusal-has (refused-refuses body) (as-refused (refusedCard body) n e))
-rejected-numbered kind.Transfer body n e = numbered-is n (refusal-has (transfer-refuses eight tt tt tt tt body) (as-solved (transferCard body) (refuse n) e))
+rejected-transfer body n e = small-is n (refusal-has (transfer-refuses eight tt tt tt tt body) (as-solved (transferCard body) (refuse n) e))
+
+-- ---- of all cards
+
+-- the number of a rejected card is above 0 and at most 108
+pub rejected-numbered : (k : Kind) (body : List ℕ) (n : ℕ) → verdictOn k body ≡ rejected n → (0 < n) × (n < inputNumber inputs)
+unfolding verdictOn
+rejected-numbered kind.Solved body n e = let is = numbered-is n (refusal-has (solved-refuses body) (as-solved (solvedCard body) (refuse n) e)) in (omega arith, is .1)
+rejected-numbered kind.Refused body n e = let is = rejected-refusal body n e in (is .0, omega arith)
+rejected-numbered kind.Transfer body n e = let is = rejected-transfer body n e in (is .0, omega arith)
 
 -- so it is not 0
 pub rejected-positive : (k : Kind) (body : List ℕ) (n : ℕ) → verdictOn k body ≡ rejected n → 0 < n

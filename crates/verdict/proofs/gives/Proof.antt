@@ -5,10 +5,10 @@ use Rattle.verdict.proofs.gives.Statement.{statement}
 use Rattle.verdict.proofs.gives.Tie as tie
 
 returns-2 : tie.Need-returns-2
-returns-2 c = rw (c .number .ensures, c .before .before .outcome .given .1) refl
+returns-2 c = rw (c .is-meant-by .ensures, c .before .before .outcome .given .1) refl
 
 returns-3 : tie.Need-returns-3
-returns-3 c = rw (c .number2 .ensures, c .before .before .outcome2 .given .1) refl
+returns-3 c = rw (c .is-meant-by2 .ensures, c .before .before .outcome2 .given .1) refl
 
 pub gives-spec : {M : Type 1} → statement M
 gives-spec = tie.close (tie.spec (λ c. search needs) (λ c. search needs) (λ c κs. search needs) (λ c. search needs) (λ c κs. search needs) (λ c. search needs) returns-2 returns-3)
