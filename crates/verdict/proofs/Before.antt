@@ -1,0 +1,74 @@
+-- Numbers that are not finite on cards. A refused card with the number 1, as cards from before have it, is accepted exactly where Kepler refuses with
+-- one of 101 to 108 (`before-exactly`). A solved card whose problem has such a number is rejected with that number's own (`solved-not-finite`).
+use mathlib.Core.Path.{_≡_, refl, sym, ap, _∙_, subst}
+use mathlib.Core.Logic.{_↔_}
+use mathlib.Core.Bool.{Bool, true, false, true≢false, _&&_, _||_}
+use mathlib.Core.List.{List}
+use Prim.Native.Nat.{ℕ, _<_}
+use native.Mathlib.Omega.{arith}
+use borrow.Author.Tests.{eqb-true, eq-eqb}
+use lib.Dec.{leb, ltb, eqb, le→leb, lt→ltb}
+use lib.Ieee.{Float}
+use Rattle.exact.proofs.Basics.{both}
+use Rattle.rows.specs.Rows.{Checked, pass, must, onward}
+use Rattle.units.proofs.Places.{FirstNotFinite}
+use Rattle.search.specs.Answers as answer
+use Rattle.search.proofs.Answers.{RefusalHas}
+use Rattle.conic.specs.Said as conic
+use Rattle.conic.specs.Said.{inputNumber, inputs, isInput, isMeantBy}
+use Rattle.entry.proofs.Refusals.{numbersOf, Numbered, numbered-is, NamesFirst, first-refuses}
+use Rattle.kepler.specs.Kepler.{keplerOf}
+use Rattle.kepler.proofs.Laws.{refusal-numbered, names-first, first-named}
+use Rattle.card.specs.declared.Kind.the-variants as kind
+use Rattle.card.specs.Fields.{problemOf, spareOf, refusalOf, lastSpareOf}
+use Rattle.ruling.specs.Said.{rejected, numberIn}
+use Rattle.compared.specs.Said.{asRefused}
+use Rattle.verdict.specs.Verdict.{isRefusedWith, solvedCard, verdictOn}
+use Rattle.verdict.proofs.Tests.{refused-tests}
+use Rattle.verdict.proofs.Accepted.{refused-means}
+
+-- ---- what 1 means
+
+-- of a number above 1 that 1 means, one of the eight
+one-means : (k : ℕ) → Numbered k → isMeantBy k 1 ≡ true → isInput k ≡ true
+one-means k small h = go (eqb k 1) refl h
+  where
+    go : (b : Bool) → eqb k 1 ≡ b → b || (true && isInput k) ≡ true → isInput k ≡ true
+    go true e g = absurd (omega (arith, eqb-true k 1 e, numbered-is k small .0))
+    go false e g = g
+
+means-one : (place : ℕ) → place < inputs → isMeantBy (inputNumber place) 1 ≡ true
+means-one place h =
+    let k = inputNumber place in
+    let yes : isInput k ≡ true = both (leb (inputNumber 0) k) (ltb k (inputNumber inputs)) .1 (le→leb (inputNumber 0) k (omega arith), lt→ltb k (inputNumber inputs) (omega arith)) in
+    ap (λ (b : Bool). eqb k 1 || (true && b)) yes ∙ either (eqb k 1)
+  where
+    either : (b : Bool) → b || true ≡ true
+    either true = refl
+    either false = refl
+
+-- an answer that 1 means, and what its number says, has a number that is not finite
+module _ (list : List Float) where
+  first-of : (s : conic.Said) → RefusalHas Numbered Numbered s → RefusalHas (NamesFirst list) (NamesFirst list) s → isRefusedWith s 1 ≡ true → (place : ℕ) × FirstNotFinite list place
+  first-of (answer.solved x n state) small names h = absurd (true≢false (sym h))
+  first-of (answer.refused k n) small names h = let first = names (one-means k small h) in (first .0, first .2)
+  first-of (answer.refusedWithBracket k n lo hi) small names h = let first = names (one-means k small h) in (first .0, first .2)
+
+module _ (body : List ℕ) where
+  pub before-exactly : spareOf body ≡ 0 → lastSpareOf body ≡ 0 → refusalOf body ≡ 1 → (numberIn (verdictOn kind.Refused body) ≡ 0) ↔ ((place : ℕ) × (place < inputs) × (keplerOf (problemOf body) ≡ answer.refused (inputNumber place) 0))
+  unfolding verdictOn
+  before-exactly s l e = (there, back)
+    where
+      there : numberIn (verdictOn kind.Refused body) ≡ 0 → (place : ℕ) × (place < inputs) × (keplerOf (problemOf body) ≡ answer.refused (inputNumber place) 0)
+      there z =
+          let p = problemOf body in
+          let given = subst (λ (k : ℕ). isRefusedWith (keplerOf p) k ≡ true) e (refused-means body z .2) in
+          let first = first-of (numbersOf p) (keplerOf p) (refusal-numbered p) (names-first p) given in
+          (first .0, first .1 .inside, first-named p (first .0) (first .1))
+
+      back : (place : ℕ) × (place < inputs) × (keplerOf (problemOf body) ≡ answer.refused (inputNumber place) 0) → numberIn (verdictOn kind.Refused body) ≡ 0
+      back (place, h, k) = ap (λ (c : Checked (Unit {0})). numberIn (asRefused c)) (refused-tests body .1 (s, l, rw (k, e) (means-one place h)))
+
+  pub solved-not-finite : (place : ℕ) → spareOf body ≡ 0 → FirstNotFinite (numbersOf (problemOf body)) place → verdictOn kind.Solved body ≡ rejected (inputNumber place)
+  unfolding verdictOn solvedCard must onward
+  solved-not-finite place s f = rw (eq-eqb (spareOf body) 0 s, first-refuses (problemOf body) place f) refl
