@@ -21,7 +21,7 @@ use Rattle.contents.specs.Contents.{mostCards, cardsOf, readOfADeck}
 use Rattle.contents.proofs.Sizes.{few-cards, read-is-enough}
 use Rattle.ruling.specs.Said.{Said, solved, refused, rejected, numberIn}
 use Rattle.verdict.specs.Verdict.{verdictOn}
-use Rattle.verdict.proofs.Rejected.{rejected-numbered}
+use Rattle.verdict.proofs.Rejected.{rejected-numbered, rejected-refusal}
 use Rattle.verdict.proofs.Accepted.{never-solved}
 use Rattle.deck.specs.declared.Totals.{Totals}
 use Rattle.deck.specs.Tally.{nothing, counted, countedAll, Residuals, absent, known, residualsOf, totalsOf}
@@ -49,12 +49,15 @@ digits-of-place p h l = go (ltb p 10) (ltb p 100) refl refl
 
 -- ---- the cards' lines
 
--- an accepted card's number has one digit, a rejected one's two at most
+-- an accepted card's number has one digit, a rejected one's three at most, and a refused card's two
 accepted-digit : length (decimal 10 0) ≤ 1
 accepted-digit = length-under 10 0 1 (omega arith) (omega arith)
 
-rejected-digits : (k : Kind) (body : List ℕ) (j : ℕ) → verdictOn k body ≡ rejected j → length (decimal 10 j) ≤ 2
-rejected-digits k body j e = length-under 10 j 2 (omega arith) (rejected-numbered k body j e .1)
+rejected-digits : (k : Kind) (body : List ℕ) (j : ℕ) → verdictOn k body ≡ rejected j → length (decimal 10 j) ≤ 3
+rejected-digits k body j e = length-under 10 j 3 (omega arith) (omega (arith, rejected-numbered k body j e .1))
+
+refusal-digits : (body : List ℕ) (j : ℕ) → verdictOn kind.Refused body ≡ rejected j → length (decimal 10 j) ≤ 2
+refusal-digits body j e = length-under 10 j 2 (omega arith) (rejected-refusal body j e .1)
 
 -- at most 17 bytes and the digits of the place; two less of a card accepted as solved, one less of one accepted as refused
 line-most : (place : ℕ) (k : Kind) (body : List ℕ) (v : Said) → verdictOn k body ≡ v → length (placedLine place k (numberIn v)) + (2 * counted nothing v .solved + counted nothing v .refused) ≤ 17 + length (decimal 10 place)
@@ -63,7 +66,7 @@ line-most place kind.Solved body refused e = simp length-append (omega (arith, a
 line-most place kind.Solved body (rejected j) e = simp length-append (omega (arith, rejected-digits kind.Solved body j e))
 line-most place kind.Refused body (solved x) e = absurd (never-solved body x e)
 line-most place kind.Refused body refused e = simp length-append (omega (arith, accepted-digit))
-line-most place kind.Refused body (rejected j) e = simp length-append (omega (arith, rejected-digits kind.Refused body j e))
+line-most place kind.Refused body (rejected j) e = simp length-append (omega (arith, refusal-digits body j e))
 line-most place kind.Transfer body (solved x) e = simp length-append (omega (arith, accepted-digit))
 line-most place kind.Transfer body refused e = simp length-append (omega (arith, accepted-digit))
 line-most place kind.Transfer body (rejected j) e = simp length-append (omega (arith, rejected-digits kind.Transfer body j e))

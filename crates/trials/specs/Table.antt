@@ -119,10 +119,10 @@ table =
     ∷ keplerGives (problem (vector one nought nought) nought 20) (refused 7 0)
     ∷ keplerGives (problem (across (numberOf 0x3f50_0000_0000_0000)) nought 20) (theStateGiven (across (numberOf 0x3f50_0000_0000_0000)))
     ∷ keplerGives (problem (across (numberOf 0x3f40_0000_0000_0000)) nought 20) (refused 7 0)
-    -- limit 0 and 101; mu -1 and a velocity with a NaN
+    -- limit 0 and 101; mu -1 and v (0,NaN,0)
     ∷ keplerGives (problem (across one) nought 0) (refused 3 0)
     ∷ keplerGives (problem (across one) nought 101) (refused 3 0)
-    ∷ keplerGives (given (numberOf 0xbff0_0000_0000_0000) (across nan) nought 20) (refused 1 0)
+    ∷ keplerGives (given (numberOf 0xbff0_0000_0000_0000) (across nan) nought 20) (refused 106 0)
     -- v (1,1,0), dt 20, limit 1
     ∷ keplerGives (problem diagonal (numberOf 0x4034_0000_0000_0000) 1) (refusedWithBracket 10 1 nought (numberOf 0x4034_0000_0000_0000))
     -- deck A
