@@ -5,7 +5,7 @@
 // `specs/`, for every input, NaN and infinities included. The crate assumes nothing.
 use vectors::Vector;
 ghost use mathlib.Core.Path.{_≡_};
-ghost use Rattle.conic.specs.Said.{reasonNumber, isMeantBy};
+ghost use Rattle.conic.specs.Said.{inputNumber, reasonNumber, isMeantBy};
 ghost use Rattle.conic.specs.TimeAndRatio.{timeAt};
 
 pub mod unfolding;
@@ -77,7 +77,7 @@ impl Reason {
         ensures { λ r. ⌜ r ≡ reasonNumber self ⌝ }
     {
         match self {
-            Reason::InputNotFinite(place) => FIRST_INPUT + place as u32,
+            Reason::InputNotFinite(place) => input_number(place),
             Reason::MuNotPositive => 2,
             Reason::LimitOutOfRange => 3,
             Reason::AngleTooLarge => 4,
@@ -101,6 +101,12 @@ impl Reason {
         let input = (FIRST_INPUT <= own) & (own < FIRST_INPUT + INPUTS);
         (own == number) | ((number == ANY_INPUT) & input)
     }
+}
+
+fn input_number(place: u8) -> u32
+    ensures { λ r. ⌜ r ≡ inputNumber place ⌝ }
+{
+    FIRST_INPUT + place as u32
 }
 
 // A prediction's answer. The bracket's ends come with reasons 9 and 10.
