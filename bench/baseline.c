@@ -73,15 +73,26 @@ static int start(const Scaled *o, Bracket *b)
     return 0;
 }
 
+/* 101 to 108, by the place of the first number that is not finite. */
+static int first_not_finite(const Problem *p)
+{
+    const double given[] = { p->mu, p->r.x, p->r.y, p->r.z, p->v.x, p->v.y, p->v.z, p->dt };
+    for (int place = 0; place < 8; place++)
+        if (!is_finite(given[place]))
+            return 101 + place;
+    return 0;
+}
+
 static int entry(const Problem *p, Scaled *o, Bracket *b)
 {
-    if (!is_finite(p->mu) || !all_finite(p->r) || !all_finite(p->v) || !is_finite(p->dt))
-        return 1;
+    int refusal = first_not_finite(p);
+    if (refusal)
+        return refusal;
     if (!(p->mu > 0))
         return 2;
     if (p->limit < 1 || p->limit > 100)
         return 3;
-    int refusal = scale(p, o);
+    refusal = scale(p, o);
     return refusal ? refusal : start(o, b);
 }
 
@@ -188,8 +199,9 @@ static uint32_t judge_refused(const uint8_t *body)
     if (half(body + 68) != 0 || half(body + 76) != 0)
         return 23;
     Problem p = problem_of(body);
-    Outcome out = kepler(&p);
-    return out.refusal && (uint32_t)out.refusal == half(body + 72) ? 0 : 24;
+    uint32_t refusal = kepler(&p).refusal, number = half(body + 72);
+    int meant = refusal == number || (number == 1 && refusal >= 101);
+    return refusal && meant ? 0 : 24;
 }
 
 /* Refusals 34 to 37 of one entry, whose body is to begin at `at`. */
