@@ -3,5 +3,5 @@ pub mod Tests
 pub mod Rejected
 pub mod Accepted
 pub mod Made
-pub mod Before
+pub mod Numbers
 pub mod Fixed

@@ -1,5 +1,6 @@
--- Numbers that are not finite on cards. A refused card with the number 1, as cards from before have it, is accepted exactly where Kepler refuses with
--- one of 101 to 108 (`before-exactly`). A solved card whose problem has such a number is rejected with that number's own (`solved-not-finite`).
+-- The numbers on refused cards, and cards from before. One with the number 1, as cards from before have it, is accepted exactly where Kepler refuses
+-- with one of 101 to 108 (`before-exactly`), and one with another number exactly where Kepler gives that number (`own-exactly`). A solved card whose
+-- problem has a number that is not finite is rejected with that one's number (`solved-not-finite`).
 use mathlib.Core.Path.{_≡_, refl, sym, ap, _∙_, subst}
 use mathlib.Core.Logic.{_↔_}
 use mathlib.Core.Bool.{Bool, true, false, true≢false, _&&_, _||_}
@@ -47,16 +48,47 @@ means-one place h =
     either true = refl
     either false = refl
 
--- an answer that 1 means, and what its number says, has a number that is not finite
+-- where 1 means Kepler's refusal, a number that is given is not finite
 module _ (list : List Float) where
   first-of : (s : conic.Said) → RefusalHas Numbered Numbered s → RefusalHas (NamesFirst list) (NamesFirst list) s → isRefusedWith s 1 ≡ true → (place : ℕ) × FirstNotFinite list place
   first-of (answer.solved x n state) small names h = absurd (true≢false (sym h))
   first-of (answer.refused k n) small names h = let first = names (one-means k small h) in (first .0, first .2)
   first-of (answer.refusedWithBracket k n lo hi) small names h = let first = names (one-means k small h) in (first .0, first .2)
 
+-- ---- what another number means
+
+-- the answer is a refusal with this number
+abbrev pub RefusesWith : ℕ → conic.Said → Type 0
+RefusesWith k (answer.solved x n state) = ⊥
+RefusesWith k (answer.refused why n) = why ≡ k
+RefusesWith k (answer.refusedWithBracket why n lo hi) = why ≡ k
+
+own-meaning : (k number : ℕ) → (number ≡ 1 → ⊥) → (isMeantBy k number ≡ true) ↔ (k ≡ number)
+own-meaning k number other = (there (eqb k number) refl (eqb number 1) refl, λ e. rw (eq-eqb k number e) refl)
+  where
+    there : (a : Bool) → eqb k number ≡ a → (b : Bool) → eqb number 1 ≡ b → a || b && isInput k ≡ true → k ≡ number
+    there true e b f h = eqb-true k number e
+    there false e true f h = absurd (other (eqb-true number 1 f))
+    there false e false f h = absurd (true≢false (sym h))
+
+own-number : (k : ℕ) → (k ≡ 1 → ⊥) → (s : conic.Said) → (isRefusedWith s k ≡ true) ↔ RefusesWith k s
+own-number k other (answer.solved x n state) = (λ h. true≢false (sym h), λ e. absurd e)
+own-number k other (answer.refused why n) = own-meaning why k other
+own-number k other (answer.refusedWithBracket why n lo hi) = own-meaning why k other
+
+-- ---- the cards
+
 module _ (body : List ℕ) where
-  pub before-exactly : spareOf body ≡ 0 → lastSpareOf body ≡ 0 → refusalOf body ≡ 1 → (numberIn (verdictOn kind.Refused body) ≡ 0) ↔ ((place : ℕ) × (place < inputs) × (keplerOf (problemOf body) ≡ answer.refused (inputNumber place) 0))
+  accepted : spareOf body ≡ 0 → lastSpareOf body ≡ 0 → isRefusedWith (keplerOf (problemOf body)) (refusalOf body) ≡ true → numberIn (verdictOn kind.Refused body) ≡ 0
   unfolding verdictOn
+  accepted s l given = ap (λ (c : Checked (Unit {0})). numberIn (asRefused c)) (refused-tests body .1 (s, l, given))
+
+  pub own-exactly : spareOf body ≡ 0 → lastSpareOf body ≡ 0 → (refusalOf body ≡ 1 → ⊥) → (numberIn (verdictOn kind.Refused body) ≡ 0) ↔ RefusesWith (refusalOf body) (keplerOf (problemOf body))
+  own-exactly s l other =
+      let own = own-number (refusalOf body) other (keplerOf (problemOf body)) in
+      (λ z. own .0 (refused-means body z .2), λ given. accepted s l (own .1 given))
+
+  pub before-exactly : spareOf body ≡ 0 → lastSpareOf body ≡ 0 → refusalOf body ≡ 1 → (numberIn (verdictOn kind.Refused body) ≡ 0) ↔ ((place : ℕ) × (place < inputs) × (keplerOf (problemOf body) ≡ answer.refused (inputNumber place) 0))
   before-exactly s l e = (there, back)
     where
       there : numberIn (verdictOn kind.Refused body) ≡ 0 → (place : ℕ) × (place < inputs) × (keplerOf (problemOf body) ≡ answer.refused (inputNumber place) 0)
@@ -67,7 +99,7 @@ module _ (body : List ℕ) where
           (first .0, first .1 .inside, first-named p (first .0) (first .1))
 
       back : (place : ℕ) × (place < inputs) × (keplerOf (problemOf body) ≡ answer.refused (inputNumber place) 0) → numberIn (verdictOn kind.Refused body) ≡ 0
-      back (place, h, k) = ap (λ (c : Checked (Unit {0})). numberIn (asRefused c)) (refused-tests body .1 (s, l, rw (k, e) (means-one place h)))
+      back (place, h, k) = accepted s l (rw (k, e) (means-one place h))
 
   pub solved-not-finite : (place : ℕ) → spareOf body ≡ 0 → FirstNotFinite (numbersOf (problemOf body)) place → verdictOn kind.Solved body ≡ rejected (inputNumber place)
   unfolding verdictOn solvedCard must onward
