@@ -1,15 +1,20 @@
 //! What Kepler and Theta share: RULES, From the state to the scaled problem, and RULES,
-//! Unfolding, with the refusals that belong to them. The transfer has the first two refusals too.
+//! Unfolding, with the refusals that belong to them. The transfer reads its numbers here too, and has
+//! refusal 2.
 
 use crate::answer::refuse;
 use crate::root::{self, root};
 use crate::universal::{functions, Functions};
+use std::ops::RangeInclusive;
 
 pub type Vector = [f64; 3];
 
 /// mu, r, v and dt (Kepler) or the angle (Theta), as they are sent. A transfer has its two positions
 /// in the places of r and v.
 pub type Words = [u64; 8];
+
+/// The refusals of a prediction for a number that is not finite, in the order of the words.
+pub const BY_PLACE: RangeInclusive<u32> = 101..=108;
 
 pub struct Problem {
     pub mu: f64,
@@ -34,11 +39,13 @@ const STRAIGHT: f64 = 1.0 / (1u64 << 20) as f64;
 pub const LOW: f64 = 1.0 / (1u64 << 10) as f64;
 
 impl Problem {
-    /// Refusals 1 and 2.
+    /// Refusals 101 to 108, and 2.
     pub fn read(words: &Words) -> Result<Problem, u32> {
-        let numbers = words.map(f64::from_bits);
-        refuse(1, !all_finite(&numbers))?;
-        let [mu, rx, ry, rz, vx, vy, vz, span] = numbers;
+        Problem::of(finite(words).map_err(|place| BY_PLACE.start() + place)?)
+    }
+
+    /// Refusal 2.
+    pub fn of([mu, rx, ry, rz, vx, vy, vz, span]: [f64; 8]) -> Result<Problem, u32> {
         refuse(2, mu <= 0.0)?;
         Ok(Problem {
             mu,
@@ -122,6 +129,20 @@ impl Orbit {
         }
         state
     }
+}
+
+/// The numbers, or the place, from 0 on, of the first that is not finite.
+pub fn finite(words: &Words) -> Result<[f64; 8], u32> {
+    match not_finite(words).next() {
+        Some(place) => Err(place),
+        None => Ok(words.map(f64::from_bits)),
+    }
+}
+
+/// The places, from 0 on, of the numbers that are not finite.
+pub fn not_finite(words: &Words) -> impl Iterator<Item = u32> + '_ {
+    let spoilt = |place: &u32| !f64::from_bits(words[*place as usize]).is_finite();
+    (0..8).filter(spoilt)
 }
 
 /// A root inside Kepler or Theta: refused, it gives 14.

@@ -4,6 +4,7 @@ use crate::answer::refuse;
 use crate::bytes::u32_at;
 use crate::cards::{Card, Claim, Kind, State, Velocity};
 use crate::chance::power_of_two;
+use crate::conic::BY_PLACE;
 use crate::kepler;
 use crate::search::{Search, NEAR};
 use crate::times::Times;
@@ -13,6 +14,9 @@ use crate::transfer;
 const READ: usize = 35_849;
 pub const VERSION: u32 = 1;
 pub const MOST_CARDS: usize = 256;
+
+/// The number of a refused card from before, when 101 to 108 were one refusal.
+pub const OLD: u32 = 1;
 
 /// Where the cards' entries begin, and the bytes of one.
 pub const ENTRIES: usize = 8;
@@ -135,7 +139,15 @@ fn near(search: &Search, x: f64, times: Times) -> Result<Times, u32> {
 fn refused(card: &Card, number: u32) -> Result<(), u32> {
     refuse(23, card.has_spare())?;
     let refusal = kepler::answer(&card.problem).refusal();
-    refuse(24, refusal != Some(number))
+    refuse(24, !refusal.is_some_and(|given| means(number, given)))
+}
+
+/// Whether a card with this number tells of this refusal of Kepler's.
+fn means(number: u32, refusal: u32) -> bool {
+    match number {
+        OLD => BY_PLACE.contains(&refusal),
+        _ => number == refusal,
+    }
 }
 
 impl Verdict {

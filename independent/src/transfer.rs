@@ -2,7 +2,7 @@
 
 use crate::answer::{refuse, Answer};
 use crate::bytes::{joined, u32_at, words_from_bytes, words_to_bytes};
-use crate::conic::{all_finite, dot, inner_root, usable, Problem, Vector, Words};
+use crate::conic::{all_finite, dot, finite, inner_root, usable, Problem, Vector, Words};
 use crate::search::{End, Search};
 use crate::times::Times;
 use crate::universal::functions;
@@ -107,7 +107,7 @@ pub fn start(input: &Input) -> Result<Started, u32> {
 /// record and in a card alike.
 pub fn placed(input: &Input) -> Result<(Positions, f64), u32> {
     refuse(23, ![SHORT, LONG].contains(&input.way))?;
-    let problem = Problem::read(&input.words)?;
+    let problem = Problem::of(finite(&input.words).map_err(|_| 1u32)?)?;
     refuse(3, !(1..=100).contains(&input.limit))?;
     let places = Positions::of(problem.mu, problem.r, problem.v)?;
     let t = problem.span / places.f4;
