@@ -8,9 +8,9 @@ use crate::deck::MOST_CARDS;
 use crate::deck_inputs::{cards_of_a, dealt, deck_a, trials, SORTS};
 use crate::file_suite::{named, Named};
 use crate::kepler::Input;
-use crate::motion::NOT_FINITE;
 use crate::refused_cards::{spares, with_spares};
 use crate::solved_cards;
+use crate::spoilt::NOT_FINITE;
 use crate::transfer_decks;
 use crate::writer::deck;
 

@@ -5,6 +5,7 @@ use crate::conic::{Orbit, Vector, Words};
 use crate::kepler::{far_end, Input};
 use crate::kepler_edges;
 use crate::motion::{self, orbit_of, with, Frame, PLAIN, SPAN};
+use crate::spoilt::{self, REFUSED_LATER};
 use crate::universal::{functions, Functions};
 
 /// The limits at the edges of what is allowed, some between, and some of which a part of the bytes
@@ -54,7 +55,7 @@ pub fn mixed(chance: &mut Chance) -> Input {
         11 => long_arc(chance),
         12 => about_far_end(chance),
         13 => huge_or_tiny(chance),
-        14 => motion::one_changed(ordinary(chance), chance),
+        14 => chance.one_of(&[motion::one_changed, spoilt::by_chance])(ordinary(chance), chance),
         _ => motion::any_words(chance),
     };
     let limit = match chance.below(8) {
@@ -89,10 +90,10 @@ pub fn trials() -> Vec<Input> {
         plain([1.0, 0.0, 0.0], 0.0, 20),
         plain([0.0, power_of_two(-10), 0.0], 0.0, 20),
         plain([0.0, power_of_two(-11), 0.0], 0.0, 20),
-        // limit 0: 3; limit 101: 3. mu -1 and a velocity with a NaN: 1.
+        // limit 0: 3; limit 101: 3. mu -1 and v (0,NaN,0): 106, the number of the NaN.
         plain([0.0, 1.0, 0.0], 0.0, 0),
         plain([0.0, 1.0, 0.0], 0.0, 101),
-        unhurried(with(changed(0, -1.0), 4, f64::NAN.to_bits())),
+        unhurried(with(changed(0, -1.0), 5, f64::NAN.to_bits())),
         // v (1,1,0), dt 20, limit 1: 10, count 1, bracket 0 to 20.
         plain([1.0, 1.0, 0.0], 20.0, 1),
         // v (0,1,0), limit 100: dt 7: solved; dt 9: 8; dt -9: 8.
@@ -105,13 +106,14 @@ pub fn trials() -> Vec<Input> {
     ]
 }
 
-/// Each number not finite in turn, alone and together with what gives 2, 3 or both.
+/// Each number not finite, and each two, of a problem that has nothing else against it and together with
+/// what gives 2, 3 or 5.
 fn not_finite(chance: &mut Chance) -> Vec<Input> {
     let mut list = Vec::new();
     for limit in [100, 0] {
-        let words = ordinary(chance);
-        for words in [words, with(words, 0, (-1f64).to_bits())] {
-            let spoilt = motion::each_not_finite(words).into_iter();
+        for refused in REFUSED_LATER {
+            let words = refused(ordinary(chance));
+            let spoilt = spoilt::alone_and_in_pairs(words, chance).into_iter();
             list.extend(spoilt.map(|words| Input { words, limit }));
         }
     }

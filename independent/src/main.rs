@@ -28,6 +28,7 @@ mod root;
 mod root_inputs;
 mod search;
 mod solved_cards;
+mod spoilt;
 mod suite;
 mod theta;
 mod theta_inputs;

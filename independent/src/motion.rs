@@ -256,18 +256,6 @@ pub fn last(lo: f64, hi: f64, holds: impl Fn(f64) -> bool) -> Option<f64> {
     Some(f64::from_bits(good))
 }
 
-/// Words that are no finite number: the infinities, and NaNs quiet and signalling, of either sign.
-pub const NOT_FINITE: [u64; 8] = [
-    0x7ff0_0000_0000_0000,
-    0xfff0_0000_0000_0000,
-    0x7ff8_0000_0000_0000,
-    0xfff8_0000_0000_0000,
-    0x7ff0_0000_0000_0001,
-    0xfff0_0000_0000_0001,
-    0x7ff7_ffff_ffff_ffff,
-    0xffff_ffff_ffff_ffff,
-];
-
 /// Zero, the least and the largest subnormal and normal numbers, 1, and two whose squares are near
 /// the least and the largest.
 const EDGES: [u64; 8] = [
@@ -280,20 +268,6 @@ const EDGES: [u64; 8] = [
     0x5fef_ffff_ffff_ffff,
     0x7fef_ffff_ffff_ffff,
 ];
-
-/// The problem with one word after the other made each of the words that are not finite.
-pub fn each_not_finite(words: Words) -> Vec<Words> {
-    (0..words.len())
-        .flat_map(|place| NOT_FINITE.map(|word| with(words, place, word)))
-        .collect()
-}
-
-/// The problem with one word after the other made a NaN with a payload, or now and then an infinity.
-pub fn each_with_payload(words: Words, chance: &mut Chance) -> Vec<Words> {
-    (0..words.len())
-        .map(|place| with(words, place, chance.word() | 0x7ff << 52))
-        .collect()
-}
 
 /// The problem with one word after the other made each of the edges, of either sign.
 pub fn each_edge(words: Words) -> Vec<Words> {

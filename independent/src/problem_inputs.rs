@@ -7,6 +7,7 @@ use crate::kepler::{self, Input, PROBLEM};
 use crate::kepler_inputs::{self, LIMITS};
 use crate::motion::{self, SPAN};
 use crate::refused_cards::{problem_with, ANSWERS};
+use crate::spoilt::{self, payload};
 
 /// How many bytes of a problem are there where it is cut: by the numbers' ends, and in the limit.
 const CUTS: [usize; 10] = [1, 7, 8, 9, 33, 63, 64, 65, 66, 67];
@@ -101,13 +102,11 @@ fn first(count: usize, problems: &[Input], wanted: impl Fn(&Input) -> bool) -> V
 fn not_finite(chance: &mut Chance) -> Vec<Named> {
     let problem = problem_with(None, chance);
     let input = |words| Input { words, ..problem };
-    let each = motion::each_not_finite(problem.words).into_iter();
+    let each = spoilt::each(problem.words).into_iter();
     let mut list = named("not-finite", each.map(|words| joined(&[input(words)])));
     for _ in 0..8 {
-        let one = motion::each_with_payload(problem.words, chance);
-        let all = one
-            .iter()
-            .map(|_| [(); 8].map(|()| chance.word() | 0x7ff << 52));
+        let one = spoilt::each_with_payload(problem.words, chance);
+        let all = one.iter().map(|_| [(); 8].map(|()| payload(chance)));
         for words in [one.clone(), all.collect()] {
             let inputs: Vec<Input> = words.into_iter().map(input).collect();
             list.extend(named("payload", [joined(&inputs)]));

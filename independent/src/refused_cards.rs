@@ -4,8 +4,8 @@ use crate::cards::{Card, Claim};
 use crate::chance::Chance;
 use crate::kepler::{self, Input};
 use crate::kepler_inputs::{self, LIMITS};
-use crate::motion;
 use crate::solved_cards::Base;
+use crate::spoilt;
 
 /// The answers that a problem of Kepler can have: a refusal's number, or solved.
 pub const ANSWERS: [Option<u32>; 11] = [
@@ -67,8 +67,8 @@ pub fn denied(problem: Input, chance: &mut Chance) -> Card {
 /// Each number of a problem no finite number, as a solved card and as one refused with 1.
 pub fn not_finite(chance: &mut Chance) -> Vec<Card> {
     let problem = problem_with(None, chance);
-    let mut spoilt = motion::each_not_finite(problem.words);
-    spoilt.extend(motion::each_with_payload(problem.words, chance));
+    let mut spoilt = spoilt::each(problem.words);
+    spoilt.extend(spoilt::each_with_payload(problem.words, chance));
     spoilt
         .into_iter()
         .map(|words| Input { words, ..problem })

@@ -10,8 +10,9 @@ use crate::ends::Ends;
 use crate::kepler::{self, far_end, Input, Started};
 use crate::kepler_edges::Exact;
 use crate::kepler_inputs::{self, aimed, unhurried};
-use crate::motion::{self, backwards, beside, last, orbit_of, with, Frame, NOT_FINITE, SPAN};
+use crate::motion::{self, backwards, beside, last, orbit_of, with, Frame, SPAN};
 use crate::search::NEAR;
+use crate::spoilt::{payload, NOT_FINITE};
 use crate::universal::functions;
 
 /// Cards of one sort, made by chance.
@@ -199,7 +200,7 @@ fn around(end: f64) -> Vec<f64> {
 pub fn not_finite(chance: &mut Chance) -> Vec<Card> {
     let base = Base::any(chance);
     let own = state(&base.solved());
-    let payloads = [(); 8].map(|()| chance.word() | 0x7ff << 52);
+    let payloads = [(); 8].map(|()| payload(chance));
     NOT_FINITE
         .into_iter()
         .chain(payloads)

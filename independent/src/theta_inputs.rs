@@ -4,6 +4,7 @@ use crate::chance::{power_of_two, Chance};
 use crate::conic::{inner_root, Vector, Words, LOW};
 use crate::edges;
 use crate::motion::{self, beside, either_way, last, orbit_of, with, Frame, PLAIN, SPAN};
+use crate::spoilt::{self, REFUSED_LATER};
 use crate::theta::{polar, OPEN, WIDEST};
 use crate::universal::functions;
 
@@ -12,6 +13,7 @@ pub fn fixed() -> Vec<Words> {
     let chance = &mut Chance::at(3, 0);
     let mut list = trials();
     list.extend(not_finite(chance));
+    list.extend(no_mu(chance));
     list.extend(lines(chance));
     list.extend((0..10_000).map(|_| mixed(chance)));
     list
@@ -23,7 +25,7 @@ pub fn mixed(chance: &mut Chance) -> Words {
         0..=11 => ordinary(chance),
         12 => too_wide(chance),
         13 => huge_or_tiny(chance),
-        14 => motion::one_changed(ordinary(chance), chance),
+        14 => chance.one_of(&[motion::one_changed, spoilt::by_chance])(ordinary(chance), chance),
         _ => motion::any_words(chance),
     }
 }
@@ -39,14 +41,25 @@ fn trials() -> Vec<Words> {
     ]
 }
 
-/// Each number not finite in turn, alone and together with what gives 2.
+/// Each number not finite, and each two, of a problem that has nothing else against it and together with
+/// what gives 2, 4 or 5.
 fn not_finite(chance: &mut Chance) -> Vec<Words> {
-    let words = ordinary(chance);
-    let bad_mu = [-1.0, 0.0, -0.0].map(|mu: f64| with(words, 0, mu.to_bits()));
-    let mut list = motion::each_not_finite(words);
-    list.extend(motion::each_not_finite(bad_mu[0]));
-    list.extend(bad_mu);
+    let allowed: fn(Words) -> Words = |words| words;
+    let too_wide: fn(Words) -> Words = |words| with(words, SPAN, 7f64.to_bits());
+    let mut list = Vec::new();
+    for angle in [allowed, too_wide] {
+        for refused in REFUSED_LATER {
+            let words = angle(refused(ordinary(chance)));
+            list.extend(spoilt::alone_and_in_pairs(words, chance));
+        }
+    }
     list
+}
+
+/// mu -1, 0 and -0.
+fn no_mu(chance: &mut Chance) -> [Words; 3] {
+    let words = ordinary(chance);
+    [-1.0, 0.0, -0.0].map(|mu: f64| with(words, 0, mu.to_bits()))
 }
 
 /// What is on and beside the lines at which the answer changes.

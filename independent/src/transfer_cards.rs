@@ -8,9 +8,10 @@ use crate::deck_inputs::SortRow;
 use crate::ends::Ends;
 use crate::kepler_inputs::LIMITS;
 use crate::legs::Leg;
-use crate::motion::{self, beside, last, NOT_FINITE};
+use crate::motion::{beside, last};
 use crate::search::NEAR;
 use crate::solved_cards::{LEAST, PLACES};
+use crate::spoilt::{self, payload, NOT_FINITE};
 use crate::transfer::{self, Input, Started, FAR, LONG, SHORT};
 use crate::transfer_edges::about_open;
 use crate::transfer_inputs::{self, unhurried, NO_WAYS};
@@ -199,7 +200,7 @@ fn about_both_ends() -> impl Iterator<Item = f64> {
 fn not_finite(chance: &mut Chance) -> Vec<Card> {
     let base = Base::any(chance);
     let own = velocity(&base.solved());
-    let payloads = [(); 4].map(|()| chance.word() | 0x7ff << 52);
+    let payloads = [(); 4].map(|()| payload(chance));
     NOT_FINITE
         .into_iter()
         .chain(payloads)
@@ -281,8 +282,8 @@ fn cards_about_open(chance: &mut Chance) -> Vec<Card> {
 /// Each number of a transfer no finite number.
 fn numbers_not_finite(chance: &mut Chance) -> Vec<Card> {
     let base = Base::any(chance);
-    let mut spoilt = motion::each_not_finite(base.input.words);
-    spoilt.extend(motion::each_with_payload(base.input.words, chance));
+    let mut spoilt = spoilt::each(base.input.words);
+    spoilt.extend(spoilt::each_with_payload(base.input.words, chance));
     spoilt
         .into_iter()
         .map(|words| Input {

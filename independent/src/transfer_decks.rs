@@ -9,7 +9,7 @@ use crate::deck::MOST_CARDS;
 use crate::deck_inputs::{cards_of_a, dealt, mixed, of_sorts};
 use crate::file_suite::{named, Named};
 use crate::kepler_inputs;
-use crate::motion::NOT_FINITE;
+use crate::spoilt::NOT_FINITE;
 use crate::transfer::{self, Input};
 use crate::transfer_cards::{self, own, with_way, SORTS};
 use crate::transfer_inputs::{trials, NO_WAYS};

@@ -5,6 +5,7 @@ use crate::conic::Words;
 use crate::kepler_inputs::LIMITS;
 use crate::legs::{self, ill_timed, ordinary, timed, true_arc, way};
 use crate::motion::{self, with, Frame, PLAIN, SPAN};
+use crate::spoilt;
 use crate::transfer::{Input, LONG, SHORT};
 use crate::transfer_edges;
 
@@ -93,8 +94,8 @@ fn not_finite(chance: &mut Chance) -> Vec<Input> {
     for (limit, way) in [(100, SHORT), (100, LONG), (0, SHORT), (100, 2)] {
         let words = ordinary(SHORT, chance);
         for words in [words, with(words, 0, (-1f64).to_bits())] {
-            let mut spoilt = motion::each_not_finite(words);
-            spoilt.extend(motion::each_with_payload(words, chance));
+            let mut spoilt = spoilt::each(words);
+            spoilt.extend(spoilt::each_with_payload(words, chance));
             list.extend(spoilt.into_iter().map(|words| Input { words, limit, way }));
         }
     }
