@@ -2,21 +2,36 @@
 # are compared. For bash, sourced at the top of the repository.
 # shellcheck shell=bash disable=SC2034
 
+# A kind for each number from FIRST to LAST, which stands in the place of #, as a list of WANTED kinds.
+each() { # KIND FIRST LAST
+    local number list=
+    for ((number = $2; number <= $3; number++)); do list+=", ${1/\#/$number}"; done
+    echo "${list#, }"
+}
+
+# Of a prediction's eight numbers each one not finite alone, and each two together.
+not_finite() {
+    local low list
+    list=$(each "not finite # alone: 90" 1 8)
+    for low in {1..7}; do list+=", $(each "not finite $low and #: 30" $((low + 1)) 8)"; done
+    echo "$list"
+}
+
 # A suite: the program's name here and in the independent program; the form of its inputs: the bytes of
 # one, or, where these have many sizes and each is a file of its own, the ending of the files' names; the
 # fewest inputs that the gate takes; and the fewest of each kind among them: kinds of answer, and for
-# transfers and for units of time kinds of input too, so that a list can't leave out what it must try.
+# predictions, transfers, cards' numbers and units of time kinds of input too, so that a list can't leave
+# out what it must try.
 suites=(
     "roots 8 20000 refused 1: 1000, refused 13: 1000, root: 20000"
     "root_digits 8 9000 refused 1: 100, refused 13: 430, root: 8500, rounded: 8500, turn: 459000"
-    "predict 68 20000 refused 1: 20, refused 2: 20, refused 3: 20, refused 5: 20, refused 6: 20, \
-refused 7: 20, refused 8: 20, refused 9: 20, refused 10: 20, refused 11: 20, solved: 10000"
-    "turn 64 10000 refused 1: 20, refused 2: 20, refused 4: 20, refused 5: 20, refused 6: 20, \
-refused 7: 20, refused 11: 20, refused 12: 20, solved: 5000"
+    "predict 68 20000 $(each 'refused #: 100' 101 108), refused 2: 20, refused 3: 20, refused 5: 20, refused 6: 20, \
+refused 7: 20, refused 8: 20, refused 9: 20, refused 10: 20, refused 11: 20, solved: 10000, $(not_finite)"
+    "turn 64 10000 $(each 'refused #: 100' 101 108), refused 2: 20, refused 4: 20, refused 5: 20, refused 6: 20, \
+refused 7: 20, refused 11: 20, refused 12: 20, solved: 5000, $(not_finite)"
     "transfer 72 20000 refused 1: 20, refused 2: 20, refused 3: 20, refused 5: 20, refused 6: 20, refused 9: 20, \
 refused 10: 20, refused 23: 20, refused 50: 20, refused 51: 20, refused 52: 20, solved: 10000, short: 6000, long: 6000, \
-limit 1: 800, limit 2: 800, limit 20: 2000, limit 100: 6000, not finite 1: 40, not finite 2: 40, not finite 3: 40, \
-not finite 4: 40, not finite 5: 40, not finite 6: 40, not finite 7: 40, not finite 8: 40, angle 0 to 90: 2500, \
+limit 1: 800, limit 2: 800, limit 20: 2000, limit 100: 6000, $(each 'not finite # alone: 40' 1 8), angle 0 to 90: 2500, \
 angle 90 to 180: 2500, angle 180 to 270: 2500, angle 270 to 360: 2500, below the bound near 0: 20, \
 at the bound near 0: 20, above the bound near 0: 20, below the bound near 180 short: 20, \
 at the bound near 180 short: 20, above the bound near 180 short: 20, below the bound near 180 long: 20, \
@@ -238,13 +253,8 @@ kinds_of() { # NAME FORM INPUTS ANSWERS
     if in_files "$2"; then
         "$independent" "$1" kinds "$3" "$4"
     else
-        awk '{ print $1 == "refused" ? $1 " " $2 : $1 }' "$4" && traits_of "$1" "$3"
+        awk '{ print $1 == "refused" ? $1 " " $2 : $1 }' "$4" && "$independent" "$1" traits <"$3"
     fi
-}
-
-# What the inputs are like, where the gate counts that.
-traits_of() { # NAME INPUTS
-    [ "$1" != transfer ] || "$independent" transfer traits <"$2"
 }
 
 # Has check_deck list the decks that write_deck wrote for whole problems, 256 at most: each has a card for

@@ -41,7 +41,7 @@ pub const LOW: f64 = 1.0 / (1u64 << 10) as f64;
 impl Problem {
     /// Refusals 101 to 108, and 2.
     pub fn read(words: &Words) -> Result<Problem, u32> {
-        Problem::of(finite(words).map_err(|place| BY_PLACE.start() + place)?)
+        Problem::of(finite(words)?)
     }
 
     /// Refusal 2.
@@ -131,18 +131,20 @@ impl Orbit {
     }
 }
 
-/// The numbers, or the place, from 0 on, of the first that is not finite.
+/// The numbers, or the lowest of 101 to 108 that holds.
 pub fn finite(words: &Words) -> Result<[f64; 8], u32> {
-    match not_finite(words).next() {
-        Some(place) => Err(place),
+    match not_finite(words, BY_PLACE).next() {
+        Some(number) => Err(number),
         None => Ok(words.map(f64::from_bits)),
     }
 }
 
-/// The places, from 0 on, of the numbers that are not finite.
-pub fn not_finite(words: &Words) -> impl Iterator<Item = u32> + '_ {
-    let spoilt = |place: &u32| !f64::from_bits(words[*place as usize]).is_finite();
-    (0..8).filter(spoilt)
+/// What the numbers that are not finite are called, by names in the order of the words.
+pub fn not_finite(words: &Words, names: RangeInclusive<u32>) -> impl Iterator<Item = u32> {
+    let named = names.zip(words.map(f64::from_bits));
+    named
+        .filter(|(_, number)| !number.is_finite())
+        .map(|(name, _)| name)
 }
 
 /// A root inside Kepler or Theta: refused, it gives 14.

@@ -55,6 +55,7 @@ use suite::Suite;
 const USAGE: &str = "\
 usage: independent NAME inputs                    the gate's inputs, in little-endian bytes
        independent NAME answers                   reads inputs, writes the lines of each
+       independent NAME traits                    reads inputs, writes a line for each trait of each
        independent NAME random SEED COUNT [FROM]  COUNT inputs made from SEED, from place FROM on
 NAME is a proved program's: roots, root_digits, predict, turn or transfer. Each input of check_deck and
 copy_deck is a file, PLACE.deck, and so is each of write_deck, PLACE.problems; NAME is one of these three:
@@ -62,8 +63,7 @@ copy_deck is a file, PLACE.deck, and so is each of write_deck, PLACE.problems; N
        independent NAME answers INPUTS INTO       for each input of a folder a file PLACE.answer
        independent NAME random SEED COUNT [FROM] INTO
        independent NAME kinds INPUTS ANSWERS      a line for each kind of each answer
-What transfers are like, and whether they arrive; RECORDS, LINES and OUTCOMES are files:
-       independent transfer traits                reads records, writes a line for each trait of each
+Whether transfers arrive; RECORDS, LINES and OUTCOMES are files:
        independent transfer arcs                  transfers, as records
        independent transfer departures RECORDS LINES
                                                   Kepler's problems for those that LINES calls solved
@@ -75,6 +75,7 @@ const ROOTS: Suite<u64, 8> = Suite {
     mixed: root_inputs::mixed,
     bytes: |word| word.to_le_bytes(),
     lines: |bytes| root::root(u64::from_le_bytes(bytes)).to_string(),
+    traits: |_| Vec::new(),
 };
 
 const ROOT_DIGITS: Suite<u64, 8> = Suite {
@@ -88,6 +89,7 @@ const PREDICT: Suite<kepler::Input, { kepler::PROBLEM }> = Suite {
     mixed: kepler_inputs::mixed,
     bytes: kepler::Input::bytes,
     lines: |bytes| kepler::answer(&kepler::Input::read(&bytes)).to_string(),
+    traits: |bytes| traits::of_prediction(&bytes),
 };
 
 const TURN: Suite<Words, 64> = Suite {
@@ -95,6 +97,7 @@ const TURN: Suite<Words, 64> = Suite {
     mixed: theta_inputs::mixed,
     bytes: words_to_bytes,
     lines: |bytes| theta::answer(&words_from_bytes(&bytes)).to_string(),
+    traits: |bytes| traits::of_prediction(&bytes),
 };
 
 const TRANSFER: Suite<transfer::Input, { transfer::RECORD }> = Suite {
@@ -102,6 +105,7 @@ const TRANSFER: Suite<transfer::Input, { transfer::RECORD }> = Suite {
     mixed: transfer_inputs::mixed,
     bytes: transfer::Input::bytes,
     lines: |bytes| transfer::answer(&transfer::Input::read(&bytes)).to_string(),
+    traits: |bytes| traits::of_transfer(&transfer::Input::read(&bytes)),
 };
 
 const CHECK_DECK: FileSuite = FileSuite {
@@ -142,7 +146,6 @@ fn main() -> ExitCode {
         ["turn", ref command @ ..] => TURN.run(&mut out, command),
         ["transfer", ref command @ ..] => TRANSFER
             .run(&mut out, command)
-            .or_else(|| traits::run(&mut out, command))
             .or_else(|| arrivals::run(&mut out, command)),
         ["check_deck", ref command @ ..] => CHECK_DECK.run(&mut out, command),
         ["write_deck", ref command @ ..] => WRITE_DECK.run(&mut out, command),

@@ -1,7 +1,7 @@
 //! A suite: what the independent program does for one of the proved programs.
 
 use crate::chance::Chance;
-use crate::reading::answer_each;
+use crate::reading::write_each;
 use std::io::{self, Write};
 
 /// Inputs of type I, sent as N bytes each.
@@ -13,6 +13,8 @@ pub struct Suite<I, const N: usize> {
     pub bytes: fn(&I) -> [u8; N],
     /// The lines that answer one input, without the last line feed.
     pub lines: fn([u8; N]) -> String,
+    /// What one input is like, as far as the gate counts that.
+    pub traits: fn([u8; N]) -> Vec<String>,
 }
 
 impl<I, const N: usize> Suite<I, N> {
@@ -20,7 +22,8 @@ impl<I, const N: usize> Suite<I, N> {
     pub fn run(&self, out: &mut impl Write, command: &[&str]) -> Option<io::Result<()>> {
         match *command {
             ["inputs"] => Some(self.write(out, (self.fixed)().into_iter())),
-            ["answers"] => Some(answer_each(out, self.lines)),
+            ["answers"] => Some(write_each(out, |bytes| vec![(self.lines)(bytes)])),
+            ["traits"] => Some(write_each(out, self.traits)),
             ["random", seed, count] => self.random(out, [seed, count, "0"]),
             ["random", seed, count, from] => self.random(out, [seed, count, from]),
             _ => None,

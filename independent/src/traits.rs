@@ -1,10 +1,11 @@
-//! The traits of a transfer that the gate counts beside its answer, a line each. So a list without the
-//! transfers that are to be tried does not pass. Nothing counts where the way is none, and angle, radii
-//! and times only where the tests before them are passed.
+//! The traits of a prediction or a transfer that the gate counts beside its answer, a line each. So a list
+//! without the inputs that are to be tried does not pass. Of a transfer nothing counts where the way is
+//! none, and angle, radii and times only where the tests before them are passed.
 
-use crate::transfer::{placed, Input, Positions, FAR, LONG, OPEN, RECORD, SHORT};
+use crate::bytes::words_from_bytes;
+use crate::conic::{self, Words};
+use crate::transfer::{placed, Input, Positions, FAR, LONG, OPEN, SHORT};
 use std::cmp::Ordering;
-use std::io::{self, Read, Write};
 
 /// A name, and the least number that has it and the least above that has it no more.
 pub type Range = (&'static str, f64, f64);
@@ -24,31 +25,18 @@ const RATIOS: [Range; 5] = [
 /// How many last places beside a line a number may be.
 const PLACES: u64 = 2;
 
-/// Does one command. None where there is no such command.
-pub fn run(out: &mut impl Write, command: &[&str]) -> Option<io::Result<()>> {
-    match *command {
-        ["traits"] => Some(write_traits(out)),
-        _ => None,
-    }
+/// Of a problem of Kepler's or of Theta's, which begin alike.
+pub fn of_prediction(problem: &[u8]) -> Vec<String> {
+    not_finite(&words_from_bytes(problem)).into_iter().collect()
 }
 
-/// Reads records from standard input, as many as come, and writes the traits of each.
-fn write_traits(out: &mut impl Write) -> io::Result<()> {
-    let mut records = Vec::new();
-    io::stdin().lock().read_to_end(&mut records)?;
-    records
-        .chunks_exact(RECORD)
-        .flat_map(|record| traits(&Input::read(record)))
-        .try_for_each(|one| writeln!(out, "{one}"))
-}
-
-fn traits(input: &Input) -> Vec<String> {
+pub fn of_transfer(input: &Input) -> Vec<String> {
     let Some(way) = way(input) else {
         return Vec::new();
     };
     let mut list = vec![way];
     list.extend(limit(input));
-    list.extend(not_finite(input));
+    list.extend(not_finite(&input.words));
     if let Ok((places, t)) = placed(input) {
         list.push(angle(&places, input.way));
         list.extend(ratio(&places));
@@ -71,12 +59,14 @@ fn limit(input: &Input) -> Option<String> {
     LIMITS.contains(&limit).then(|| format!("limit {limit}"))
 }
 
-/// The place, from 1 on, of the number that is not finite, where it is the only one.
-fn not_finite(input: &Input) -> Option<String> {
-    let finite = input.words.map(|word| f64::from_bits(word).is_finite());
-    let place = finite.iter().position(|finite| !finite)?;
-    let alone = finite[place + 1..].iter().all(|finite| *finite);
-    alone.then(|| format!("not finite {}", place + 1))
+/// The places, from 1 on, of the numbers that are not finite, where there are one or two.
+fn not_finite(words: &Words) -> Option<String> {
+    let places: Vec<u32> = conic::not_finite(words, 1..=8).collect();
+    match places[..] {
+        [place] => Some(format!("not finite {place} alone")),
+        [low, high] => Some(format!("not finite {low} and {high}")),
+        _ => None,
+    }
 }
 
 /// The quarter of a turn in which the angle is. The long way's is 360 degrees less the short one's.
