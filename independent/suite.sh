@@ -2,19 +2,21 @@
 # are compared. For bash, sourced at the top of the repository.
 # shellcheck shell=bash disable=SC2034
 
-# A kind for each number from FIRST to LAST, which stands in the place of #, as a list of WANTED kinds.
-each() { # KIND FIRST LAST
-    local number list=
-    for ((number = $2; number <= $3; number++)); do list+=", ${1/\#/$number}"; done
-    echo "${list#, }"
+# A kind for each NUMBER, which stands in the place of #.
+each() { # KIND NUMBER...
+    local kind=$1 number list=
+    shift
+    for number; do list+=", ${kind/\#/$number}"; done
+    printf '%s' "${list#, }"
 }
 
 # Of a prediction's eight numbers each one not finite alone, and each two together.
 not_finite() {
-    local low list
-    list=$(each "not finite # alone: 90" 1 8)
-    for low in {1..7}; do list+=", $(each "not finite $low and #: 30" $((low + 1)) 8)"; done
-    echo "$list"
+    local low high
+    each 'not finite # alone: 90' {1..8}
+    for low in {1..7}; do
+        for ((high = low + 1; high <= 8; high++)); do printf ', not finite %s and %s: 30' "$low" "$high"; done
+    done
 }
 
 # A suite: the program's name here and in the independent program; the form of its inputs: the bytes of
@@ -25,21 +27,21 @@ not_finite() {
 suites=(
     "roots 8 20000 refused 1: 1000, refused 13: 1000, root: 20000"
     "root_digits 8 9000 refused 1: 100, refused 13: 430, root: 8500, rounded: 8500, turn: 459000"
-    "predict 68 20000 $(each 'refused #: 100' 101 108), refused 2: 20, refused 3: 20, refused 5: 20, refused 6: 20, \
+    "predict 68 20000 $(each 'refused #: 100' {101..108}), refused 2: 20, refused 3: 20, refused 5: 20, refused 6: 20, \
 refused 7: 20, refused 8: 20, refused 9: 20, refused 10: 20, refused 11: 20, solved: 10000, $(not_finite)"
-    "turn 64 10000 $(each 'refused #: 100' 101 108), refused 2: 20, refused 4: 20, refused 5: 20, refused 6: 20, \
+    "turn 64 10000 $(each 'refused #: 100' {101..108}), refused 2: 20, refused 4: 20, refused 5: 20, refused 6: 20, \
 refused 7: 20, refused 11: 20, refused 12: 20, solved: 5000, $(not_finite)"
     "transfer 72 20000 refused 1: 20, refused 2: 20, refused 3: 20, refused 5: 20, refused 6: 20, refused 9: 20, \
 refused 10: 20, refused 23: 20, refused 50: 20, refused 51: 20, refused 52: 20, solved: 10000, short: 6000, long: 6000, \
-limit 1: 800, limit 2: 800, limit 20: 2000, limit 100: 6000, $(each 'not finite # alone: 40' 1 8), angle 0 to 90: 2500, \
-angle 90 to 180: 2500, angle 180 to 270: 2500, angle 270 to 360: 2500, below the bound near 0: 20, \
+limit 1: 800, limit 2: 800, limit 20: 2000, limit 100: 6000, $(each 'not finite # alone: 40' {1..8}), \
+angle 0 to 90: 2500, angle 90 to 180: 2500, angle 180 to 270: 2500, angle 270 to 360: 2500, below the bound near 0: 20, \
 at the bound near 0: 20, above the bound near 0: 20, below the bound near 180 short: 20, \
 at the bound near 180 short: 20, above the bound near 180 short: 20, below the bound near 180 long: 20, \
 at the bound near 180 long: 20, above the bound near 180 long: 20, below the bound near 360: 20, \
 at the bound near 360: 20, above the bound near 360: 20, below T(0): 200, at T(0): 200, above T(0): 200, \
 below T(36): 200, at T(36): 150, above T(36): 200, ratio below 1e-9: 100, ratio 1e-3 to 0.1: 1000, \
 ratio 0.1 to 10: 5000, ratio 10 to 1e3: 1000, ratio above 1e9: 500"
-    "check_deck .deck 3000 solved 0: 10000, solved 1: 20, solved 2: 20, solved 3: 20, solved 5: 20, \
+    "check_deck .deck 3000 solved 0: 10000, $(each 'solved #: 20' {101..108}), solved 2: 20, solved 3: 20, solved 5: 20, \
 solved 6: 20, solved 7: 20, solved 8: 20, solved 11: 20, solved 20: 20, solved 21: 20, solved 22: 20, \
 solved 23: 20, refused 0: 5000, refused 23: 20, refused 24: 20, deck 30: 20, deck 31: 20, deck 32: 20, \
 deck 33: 20, deck 34: 20, deck 35: 20, deck 36: 20, deck 37: 20, deck 38: 20, transfer 0: 500, transfer 1: 20, \
@@ -51,19 +53,23 @@ transfer unit subnormal: 150, transfer unit below 1e-290: 150, transfer unit 1e-
 transfer unit 1e-150 to 1e-50: 120, transfer unit 1e-50 to 1e50: 1000, transfer unit 1e50 to 1e150: 100, \
 transfer unit 1e150 to 1e290: 25, transfer unit above 1e290: 500, units apart: 350, units apart among every kind: 60, \
 residual rounded to 0: 60, residual subnormal: 500, residual above 1e297: 400, transfer residual rounded to 0: 80, \
-transfer residual subnormal: 200, transfer residual above 1e297: 100, far in seconds: 10000, near in seconds: 1240, \
-transfer far in seconds: 2000, transfer near in seconds: 120, told from no unit: 1800, \
+transfer residual subnormal: 200, transfer residual above 1e297: 100, far in seconds: 10000, near in seconds: 1215, \
+transfer far in seconds: 2000, transfer near in seconds: 148, told from no unit: 1800, \
 told from no unit of transfers: 350, told from the first unit: 1100, told from the last unit: 1100, \
 told from the unit before: 1100, told from all units: 1500, told from two products: 1500, \
 told from times in seconds: 1200, told from sums of times: 1500, told from another order: 250, \
 told from the largest gap: 700, overflow by all units: 20, overflow by two products: 250, \
-overflow by times in seconds: 30, overflow by sums of times: 40"
-    "write_deck .problems 500 written: 500, solved: 3000, refused 1: 100, refused 2: 100, refused 3: 100, refused 5: 50, \
-refused 6: 50, refused 7: 50, refused 8: 50, refused 9: 32, refused 10: 50, refused 11: 50, deck 40: 10, \
-deck 46: 100, cards 0: 4, cards 1: 100, cards 2: 4, cards 255: 3, cards 256: 6, cards between: 100"
+overflow by times in seconds: 30, overflow by sums of times: 40, $(each 'fine number # accepted: 200' {101..108}), \
+fine number of a later place: 90, fine number of another place: 500, fine number for a solved problem: 14, \
+$(each 'fine number for #: 14' 2 3 {5..11}), old card 0: 600, old card 23: 45, old card 24: 2000, \
+$(each 'old card for #: 75' {101..108}), $(each 'old card for #: 25' 2 3 {5..11}), \
+old card for a solved problem: 2000, old card but for a bit: 140, old and new accepted: 150"
+    "write_deck .problems 500 written: 500, solved: 3000, $(each 'refused #: 50' {101..108}), refused 2: 100, \
+refused 3: 100, refused 5: 50, refused 6: 50, refused 7: 50, refused 8: 50, refused 9: 32, refused 10: 50, refused 11: 50, \
+deck 40: 10, deck 46: 100, cards 0: 4, cards 1: 100, cards 2: 4, cards 255: 3, cards 256: 6, cards between: 100"
     "copy_deck .deck 600 same: 500, cleared: 60, deck 30: 8, deck 31: 2, deck 32: 2, deck 33: 2, deck 34: 2, \
 deck 35: 2, deck 36: 2, deck 37: 2, deck 38: 2, cards 0: 2, cards 1: 2, cards 2: 2, cards 255: 1, \
-cards 256: 2, cards between: 400, with transfer: 60, refused with transfer: 10"
+cards 256: 2, cards between: 400, with transfer: 60, refused with transfer: 10, with old card: 200"
 )
 
 independent=independent/target/release/independent

@@ -21,7 +21,7 @@ use crate::writer::deck;
 pub type SortRow = (&'static str, usize, u64, Sort);
 
 /// The sorts that are not transfers. The first is Kepler's own answers.
-pub const SORTS: [SortRow; 19] = [
+pub const SORTS: [SortRow; 21] = [
     ("own", 200, 16, own),
     ("moved", 60, 16, solved::moved),
     ("other-ways", 200, 16, solved::other_ways),
@@ -36,9 +36,11 @@ pub const SORTS: [SortRow; 19] = [
     ("beyond-velocity", 200, 16, solved::beyond_velocity),
     ("no-time", 40, 2, solved::no_time),
     ("still", 60, 16, solved::still),
-    ("numbers", 2, 16, refused::numbers),
-    ("as-solved", 30, 16, refused::as_solved),
-    ("not-finite", 4, 16, refused::not_finite),
+    ("numbers", 2, 40, refused::numbers),
+    ("old", 24, 32, refused::old),
+    ("as-solved", 20, 16, refused::as_solved),
+    ("not-finite", 4, 24, refused::not_finite),
+    ("two-not-finite", 2, 32, refused::two_not_finite),
     ("limits", 10, 16, refused::limits),
     ("spares", 4, 16, refused::spares),
 ];

@@ -2,13 +2,18 @@
 //! answer as bytes is held here.
 
 use crate::bytes::u32_at;
-use crate::cards::{Claim, Kind};
+use crate::card_numbers;
+use crate::cards::{Card, Claim, Kind};
 use crate::deck::{self, ENTRIES, ENTRY, MOST_CARDS};
 use crate::kepler::PROBLEM;
 use crate::units;
 
-/// Of a listing: the kind and the verdict of each card, or the deck's refusal; and whether the deck
-/// has a transfer, and is refused with it. A listing calls a transfer solved; here it is told apart.
+/// A card of a deck that is accepted, and its verdict.
+pub type Judged<'a> = (&'a Card, &'a str);
+
+/// Of a listing: the kind and the verdict of each card, or the deck's refusal; whether the deck has a
+/// transfer, and is refused with it; and the kinds of its refused cards' numbers and of its units. A
+/// listing calls a transfer solved; here it is told apart.
 pub fn listed(deck: &[u8], listing: &[u8]) -> Vec<String> {
     let listing = String::from_utf8_lossy(listing);
     let mut entries = entries(deck);
@@ -22,8 +27,17 @@ pub fn listed(deck: &[u8], listing: &[u8]) -> Vec<String> {
     };
     let mut kinds: Vec<String> = listing.lines().filter_map(&mut kind).collect();
     kinds.extend(with_transfer(deck, listing.starts_with("deck ")));
-    kinds.extend(units::kinds(deck, &listing));
+    let cards = deck::cards(deck).unwrap_or_default();
+    let verdicts = listing.lines().filter_map(verdict);
+    let judged: Vec<Judged> = cards.iter().zip(verdicts).collect();
+    kinds.extend(card_numbers::kinds(&judged));
+    kinds.extend(units::kinds(&judged, &listing));
     kinds
+}
+
+fn verdict(line: &str) -> Option<&str> {
+    let (_, verdict) = line.strip_prefix("card ")?.rsplit_once(' ')?;
+    Some(verdict)
 }
 
 /// Of what `write_deck` writes: what each card says, `written` and how many there are; or the refusal. The
@@ -48,8 +62,8 @@ pub fn written(problems: &[u8], answer: &[u8]) -> Vec<String> {
 }
 
 /// Of what `copy_deck` writes: `same` where it is the same bytes, `cleared` where it is the same but
-/// for the spares, and how many cards there are, or the refusal; and whether the deck has a transfer, and
-/// is refused with it.
+/// for the spares, how many cards there are, and whether one is from before; or the refusal; and whether
+/// the deck has a transfer, and is refused with it.
 pub fn copied(deck: &[u8], answer: &[u8]) -> Vec<String> {
     if let Some(line) = refusal(answer) {
         return [line]
@@ -65,6 +79,7 @@ pub fn copied(deck: &[u8], answer: &[u8]) -> Vec<String> {
     let count = how_many(u32_at(deck, 4) as usize);
     [kind.to_string(), count]
         .into_iter()
+        .chain(card_numbers::with_old(deck))
         .chain(with_transfer(deck, false))
         .collect()
 }

@@ -4,6 +4,7 @@
 mod answer;
 mod arrivals;
 mod bytes;
+mod card_numbers;
 mod cards;
 mod chance;
 mod conic;

@@ -1,12 +1,13 @@
 //! The problems that the writer is tried on: 0 to 258 in a file, and files that end inside one.
 
 use crate::chance::Chance;
+use crate::conic::Words;
 use crate::deck::MOST_CARDS;
 use crate::file_suite::{named, Named};
 use crate::kepler::{self, Input, PROBLEM};
 use crate::kepler_inputs::{self, LIMITS};
 use crate::motion::{self, SPAN};
-use crate::refused_cards::{problem_with, ANSWERS};
+use crate::refused_cards::{answers, problem_with};
 use crate::spoilt::{self, payload};
 
 /// How many bytes of a problem are there where it is cut: by the numbers' ends, and in the limit.
@@ -65,7 +66,7 @@ fn counts(problems: &[Input]) -> Vec<Named> {
 /// Problems with each answer, forwards and backwards, alone and together.
 fn alike(problems: &[Input]) -> Vec<Named> {
     let mut list = Vec::new();
-    for answer in ANSWERS {
+    for answer in answers() {
         for sign in [0, 1] {
             let alike = |input: &Input| refusal(input) == answer && input.words[SPAN] >> 63 == sign;
             let found = first(16, problems, alike);
@@ -97,20 +98,23 @@ fn first(count: usize, problems: &[Input], wanted: impl Fn(&Input) -> bool) -> V
     found
 }
 
-/// Each number no finite number, one problem in a file; and with payloads by chance, one number of
-/// each problem or all.
+/// Each number no finite number, and with payloads by chance one number of each problem, two or all.
 fn not_finite(chance: &mut Chance) -> Vec<Named> {
     let problem = problem_with(None, chance);
-    let input = |words| Input { words, ..problem };
-    let each = spoilt::each(problem.words).into_iter();
-    let mut list = named("not-finite", each.map(|words| joined(&[input(words)])));
+    let file = |words: &[Words]| {
+        let inputs = words.iter().map(|words| Input {
+            words: *words,
+            ..problem
+        });
+        joined(&inputs.collect::<Vec<Input>>())
+    };
+    let each = spoilt::each(problem.words);
+    let mut list = named("not-finite", each.chunks(8).map(file));
     for _ in 0..8 {
         let one = spoilt::each_with_payload(problem.words, chance);
-        let all = one.iter().map(|_| [(); 8].map(|()| payload(chance)));
-        for words in [one.clone(), all.collect()] {
-            let inputs: Vec<Input> = words.into_iter().map(input).collect();
-            list.extend(named("payload", [joined(&inputs)]));
-        }
+        let two = spoilt::each_two(problem.words, chance);
+        let all = [[0; 8]; 8].map(|words| words.map(|_| payload(chance)));
+        list.extend(named("payload", [&one[..], &two, &all].map(file)));
     }
     list
 }

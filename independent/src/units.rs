@@ -3,7 +3,7 @@
 //! tried does not pass.
 
 use crate::cards::{Card, Kind};
-use crate::deck;
+use crate::kinds::Judged;
 use crate::search::NEAR;
 use crate::times::Times;
 use crate::traits::{range_of, Range};
@@ -67,7 +67,7 @@ struct Solved {
 }
 
 impl Solved {
-    fn of((card, verdict): &(&Card, &str)) -> Option<Solved> {
+    fn of((card, verdict): &Judged) -> Option<Solved> {
         let times = card.times().filter(|_| *verdict == "0")?;
         let is_transfer = is_transfer(card);
         Some(Solved { is_transfer, times })
@@ -95,11 +95,8 @@ impl Solved {
     }
 }
 
-/// The kinds of a deck that has this listing. A deck that is refused has none.
-pub fn kinds(deck: &[u8], listing: &str) -> Vec<String> {
-    let cards = deck::cards(deck).unwrap_or_default();
-    let verdicts = listing.lines().filter_map(verdict);
-    let judged: Vec<(&Card, &str)> = cards.iter().zip(verdicts).collect();
+/// The kinds of a deck with these cards and this listing.
+pub fn kinds(judged: &[Judged], listing: &str) -> Vec<String> {
     let mut kinds: Vec<String> = judged.iter().flat_map(of_card).collect();
     let solved: Vec<Solved> = judged.iter().filter_map(Solved::of).collect();
     if !solved.is_empty() {
@@ -110,13 +107,8 @@ pub fn kinds(deck: &[u8], listing: &str) -> Vec<String> {
     kinds
 }
 
-fn verdict(line: &str) -> Option<&str> {
-    let (_, verdict) = line.strip_prefix("card ")?.rsplit_once(' ')?;
-    Some(verdict)
-}
-
 /// The kinds of one card. A transfer's are told apart.
-fn of_card((card, verdict): &(&Card, &str)) -> Vec<String> {
+fn of_card((card, verdict): &Judged) -> Vec<String> {
     let Some(times) = card.times() else {
         return Vec::new();
     };
