@@ -4,12 +4,14 @@ use crate::cards::Card;
 use crate::chance::Chance;
 use crate::conic::Vector;
 use crate::damage;
+use crate::deck::MOST_CARDS;
 use crate::file_suite::{named, Named};
 use crate::kepler::{self, Input};
 use crate::kepler_inputs;
 use crate::motion::PLAIN;
 use crate::refused_cards as refused;
 use crate::solved_cards::{self as solved, Sort};
+use crate::spoilt;
 use crate::ties;
 use crate::transfer_cards;
 use crate::transfer_decks;
@@ -55,6 +57,7 @@ pub fn fixed() -> Vec<Named> {
     list.extend(damaged());
     list.extend(long(chance));
     list.extend((0..600).map(|_| mixture(chance, |chance| few(&SORTS, chance))));
+    list.extend(named("longest-listing", [longest_listing(chance)]));
     list.extend(transfer_decks::fixed());
     list.extend(unit_cards::decks());
     list
@@ -199,6 +202,16 @@ fn damaged() -> Vec<Named> {
     .into_iter()
     .flatten()
     .collect()
+}
+
+/// No deck's listing is longer: a card that is accepted, and others whose verdicts have three digits.
+fn longest_listing(chance: &mut Chance) -> Vec<u8> {
+    let good = solved::solved(chance);
+    let problem = good.problem;
+    let spoilt = spoilt::each(problem.words).into_iter().cycle();
+    let rejected = spoilt.map(|words| Card::at(Input { words, ..problem }, 0.0));
+    let cards = [good].into_iter().chain(rejected).take(MOST_CARDS);
+    deck(&cards.collect::<Vec<Card>>())
 }
 
 /// The largest deck, and inputs about and beyond the most that is read.

@@ -106,8 +106,7 @@ pub fn trials() -> Vec<Input> {
     ]
 }
 
-/// Each number not finite, and each two, of a problem that has nothing else against it and together with
-/// what gives 2, 3 or 5.
+/// Each number not finite, and each two, alone and together with what gives 2, 3 or 5.
 fn not_finite(chance: &mut Chance) -> Vec<Input> {
     let mut list = Vec::new();
     for limit in [100, 0] {

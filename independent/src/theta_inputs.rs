@@ -41,8 +41,7 @@ fn trials() -> Vec<Words> {
     ]
 }
 
-/// Each number not finite, and each two, of a problem that has nothing else against it and together with
-/// what gives 2, 4 or 5.
+/// Each number not finite, and each two, alone and together with what gives 2, 4 or 5.
 fn not_finite(chance: &mut Chance) -> Vec<Words> {
     let allowed: fn(Words) -> Words = |words| words;
     let too_wide: fn(Words) -> Words = |words| with(words, SPAN, 7f64.to_bits());
