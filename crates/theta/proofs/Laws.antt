@@ -3,7 +3,7 @@
 use mathlib.Core.Path.{_≡_, refl}
 use Prim.Native.Nat.{ℕ}
 use lib.Ieee.{Float}
-use Rattle.search.specs.Answers.{refused, withFound}
+use Rattle.search.specs.Answers.{refused}
 use Rattle.search.proofs.Answers.{RefusalHas, found-numbered}
 use Rattle.rows.specs.Rows.{onward}
 use Rattle.rows.proofs.Laws.{Refuses, must-refuses, onward-refuses}

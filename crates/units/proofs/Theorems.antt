@@ -3,7 +3,7 @@ use mathlib.Core.Path.{_≡_, refl}
 use lib.Ieee.{Float}
 use Rattle.coincidence.specs.Coincidence.{OneToOne}
 use Rattle.coincidence.proofs.Laws.{undone}
-use Rattle.rows.specs.Rows.{Checked, pass, refuse}
+use Rattle.rows.specs.Rows.{Checked}
 use Rattle.rows.proofs.Laws.{takenBack}
 use Rattle.units.specs.declared.Finite.{Finite}
 use Rattle.units.specs.declared.Finite.the-variants as finite

@@ -11,7 +11,7 @@ use borrow.Author.Tests.{eqb-true, eq-eqb}
 use lib.Dec.{leb, ltb, eqb, le→leb, lt→ltb}
 use lib.Ieee.{Float}
 use Rattle.exact.proofs.Basics.{both}
-use Rattle.rows.specs.Rows.{Checked, pass, must, onward}
+use Rattle.rows.specs.Rows.{Checked, must, onward}
 use Rattle.units.proofs.Places.{FirstNotFinite}
 use Rattle.search.specs.Answers as answer
 use Rattle.search.proofs.Answers.{RefusalHas}
