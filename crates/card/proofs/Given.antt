@@ -16,12 +16,13 @@ use Rattle.spelled.proofs.Length.{length-bytes}
 use Rattle.words.proofs.Written.{valueAt-front, valueAt-back, valueAt-bytes, valueAt-last}
 use Rattle.rows.specs.Rows.{pass, onward}
 use Rattle.conic.specs.declared.Problem.{Problem}
+use Rattle.conic.specs.Said.{problemNumbers}
 use Rattle.conic.proofs.Fitting.{ProblemFits}
 use Rattle.arc.specs.declared.Way.{Way}
 use Rattle.arc.specs.declared.Way.the-variants as way
 use Rattle.arc.specs.declared.Transfer.{Transfer}
 use Rattle.card.specs.Fields.{problemSize, transferSize, problemOf, wayOf, transferBy, transferOf}
-use Rattle.card.specs.Made.{numbersBytes, problemNumbers, problemBytes, wayNumber, asProblem, transferBytes}
+use Rattle.card.specs.Made.{numbersBytes, problemBytes, wayNumber, asProblem, transferBytes}
 use Rattle.card.proofs.Numbers.{AllFit, length-numbers, number-at}
 
 -- ---- what stands behind changes nothing

@@ -24,11 +24,8 @@ abbrev pub numbersBytes : List Float → List ℕ
 numbersBytes l = wordsBytes (map wordOf l)
 
 -- The deck 4, before the spare: eight numbers, and the limit
-abbrev pub problemNumbers : Problem → List Float
-problemNumbers p = p .mu ∷ p .r .x ∷ p .r .y ∷ p .r .z ∷ p .v .x ∷ p .v .y ∷ p .v .z ∷ p .dt ∷ []
-
 abbrev pub problemBytes : Problem → List ℕ
-problemBytes p = numbersBytes (problemNumbers p) ++ bytesOf 4 (p .limit)
+problemBytes p = numbersBytes (conic.problemNumbers p) ++ bytesOf 4 (p .limit)
 
 -- The deck 7: the number of a way, and a transfer's bytes: what every body begins with, then the way
 abbrev pub wayNumber : Way → ℕ

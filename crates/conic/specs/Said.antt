@@ -1,8 +1,11 @@
 -- What the answers say, in the numbers and values of RULES, Refusal numbers. Definitions only.
 use Prim.Native.Nat.{ℕ, _+_}
 use mathlib.Core.Bool.{Bool, _&&_, _||_}
+use mathlib.Core.List.{List}
 use lib.Dec.{leb, ltb, eqb}
+use lib.Ieee.{Float}
 use Rattle.conic.specs.declared.State.{State}
+use Rattle.conic.specs.declared.Problem.{Problem}
 use Rattle.conic.specs.declared.Reason.{Reason}
 use Rattle.conic.specs.declared.Reason.the-variants as why
 use Rattle.conic.specs.declared.Outcome.{Outcome}
@@ -10,7 +13,12 @@ use Rattle.conic.specs.declared.Outcome.the-variants as outcome
 use Rattle.conic.specs.declared.unfolding.Arrival.{Arrival}
 use Rattle.conic.specs.declared.unfolding.Arrival.the-variants as arrival
 use Rattle.rows.specs.Rows.{Checked, pass, refuse}
+use Rattle.vectors.specs.Vectors.{numbersGiven}
 use Rattle.search.specs.Answers.{Answer, solved, refused, refusedWithBracket}
+
+-- the eight numbers that Kepler is given, by their places
+abbrev pub problemNumbers : Problem → List Float
+problemNumbers p = numbersGiven (p .mu) (p .r) (p .v) (p .dt)
 
 -- 101 to 108: the number at each place, from 0 on, of the eight that a prediction is given
 abbrev pub inputNumber : (place : ℕ) → ℕ

@@ -1,40 +1,34 @@
--- The numbers with which an entry refuses: those of the eight numbers given, at the first that is not finite, and 2 to 8 and 14 (`entry-refuses`,
--- `angle-entry-refuses`: whatever these have, each refusal's number has). So each is above 1 and at most 108 (`Numbered`); one of 101 to 108 names
+-- The numbers with which an entry refuses: those of the eight numbers given, at the first that is not finite; 2, 5, 6, 7 and 14; for Kepler 3 and 8,
+-- and for Theta 4 (`entry-refuses`, `angle-entry-refuses`: whatever these have, each refusal's number has). So each is above 1 and at most 108 (`Numbered`); one of 101 to 108 names
 -- the first that is not finite (`NamesFirst`), and that one is refused with its number (`first-refuses`, `first-refuses-angle`). Each number stands
 -- beside its test, so the laws of rows follow the definitions line by line.
 use mathlib.Core.Path.{_≡_, refl, sym, _∙_}
-use mathlib.Core.Bool.{true, false, true≢false, _&&_}
+use mathlib.Core.Bool.{true, false, true≢false}
 use mathlib.Core.List.{List}
-use Prim.Native.Nat.{ℕ, _<_}
+use Prim.Native.Nat.{ℕ}
 use native.Mathlib.Omega.{arith}
-use lib.Dec.{T, ltb, ltb→lt, lt→ltb}
+use lib.Dec.{ltb, lt→ltb}
 use lib.Ieee.{Float, le}
-use lib.Ieee.Fits.{and-l, and-r}
 use Rattle.exact.specs.Numbers.{magnitude}
 use Rattle.exact.proofs.Basics.{passed, both}
 use Rattle.vectors.specs.declared.Vector.{Vector}
 use Rattle.conic.specs.declared.Problem.{Problem}
 use Rattle.conic.specs.declared.Scaled.{Scaled}
-use Rattle.conic.specs.Said.{inputNumber, inputs, isInput}
+use Rattle.conic.specs.Said.{problemNumbers, inputNumber, inputs, isInput}
 use Rattle.entry.specs.Entry.{inputsTested, testedBy, scaledBy, scaledOf, sixtyFourth, farEndOf, bracketedBy, startOf, entryOf, angleEntryOf}
-use Rattle.units.specs.Units.{numbersGiven, radiusOf, unitOf}
+use Rattle.units.specs.Units.{radiusOf, unitOf}
+use Rattle.vectors.specs.Vectors.{numbersGiven}
 use Rattle.units.proofs.Places.{FirstNotFinite, refuses-first, first-refused}
 use Rattle.units.proofs.Refusals.{root-refuses, measure-refuses}
 use Rattle.rows.specs.Rows.{refuse, onward}
-use Rattle.rows.proofs.Laws.{Refuses, passes, must-refuses, cond-refuses, onward-refuses}
+use Rattle.rows.proofs.Laws.{Between, Refuses, passes, must-refuses, cond-refuses, onward-refuses}
 
-abbrev pub numbersOf : Problem → List Float
-numbersOf p = numbersGiven (p .mu) (p .r) (p .v) (p .dt)
-
--- what each number has that is not of the eight
+-- what each number has that is not of the eight, and that Kepler and Theta share
 pub record Others (P : ℕ → Type 0) : Type 0 where
   pub p2 : P 2
-  pub p3 : P 3
-  pub p4 : P 4
   pub p5 : P 5
   pub p6 : P 6
   pub p7 : P 7
-  pub p8 : P 8
   pub p14 : P 14
 
 -- and what the eight have, each where it is given
@@ -64,34 +58,32 @@ module _ {P : ℕ → Type 0} (o : Others P) where
   unfolding farEndOf
   far-end-refuses alpha = cond-refuses (le (magnitude alpha) sixtyFourth) _ _ passes (onward-refuses _ _ (root-refuses 14 _ (o .p14)) (λ k. passes))
 
-  bracket-refuses : (s : Scaled) (far : Float) → Refuses P (bracketedBy s far)
-  unfolding bracketedBy
-  bracket-refuses s far = must-refuses _ 6 _ (o .p6) (must-refuses _ 8 _ (o .p8) passes)
+  module _ (p3 : P 3) (p8 : P 8) where
+    bracket-refuses : (s : Scaled) (far : Float) → Refuses P (bracketedBy s far)
+    unfolding bracketedBy
+    bracket-refuses s far = must-refuses _ 6 _ (o .p6) (must-refuses _ 8 _ p8 passes)
 
-  start-refuses : (s : Scaled) → Refuses P (startOf s)
-  unfolding startOf
-  start-refuses s = onward-refuses _ _ (far-end-refuses (s .alpha)) (λ x. bracket-refuses s _)
+    start-refuses : (s : Scaled) → Refuses P (startOf s)
+    unfolding startOf
+    start-refuses s = onward-refuses _ _ (far-end-refuses (s .alpha)) (λ x. bracket-refuses s _)
 
-  pub entry-refuses : (p : Problem) → AtFirst P (numbersOf p) → Refuses P (entryOf p)
-  unfolding entryOf
-  entry-refuses p at-first =
-      onward-refuses _ _ (inputs-refuse (p .mu) (p .r) (p .v) (p .dt) at-first)
-      (λ good. must-refuses _ 3 _ (o .p3) (onward-refuses _ _ (scaled-refuses (p .mu) (p .r) (p .v) (p .dt)) start-refuses))
+    pub entry-refuses : (p : Problem) → AtFirst P (problemNumbers p) → Refuses P (entryOf p)
+    unfolding entryOf
+    entry-refuses p at-first =
+        onward-refuses _ _ (inputs-refuse (p .mu) (p .r) (p .v) (p .dt) at-first)
+        (λ good. must-refuses _ 3 _ p3 (onward-refuses _ _ (scaled-refuses (p .mu) (p .r) (p .v) (p .dt)) start-refuses))
 
-  pub angle-entry-refuses : (mu : Float) (r v : Vector) (a : Float) → AtFirst P (numbersGiven mu r v a) → Refuses P (angleEntryOf mu r v a)
+  pub angle-entry-refuses : P 4 → (mu : Float) (r v : Vector) (a : Float) → AtFirst P (numbersGiven mu r v a) → Refuses P (angleEntryOf mu r v a)
   unfolding angleEntryOf
-  angle-entry-refuses mu r v a at-first = onward-refuses _ _ (inputs-refuse mu r v a at-first) (λ good. must-refuses _ 4 _ (o .p4) (scaled-refuses mu r v _))
+  angle-entry-refuses p4 mu r v a at-first = onward-refuses _ _ (inputs-refuse mu r v a at-first) (λ good. must-refuses _ 4 _ p4 (scaled-refuses mu r v _))
 
 -- ---- each is above 1 and at most 108
 
 abbrev pub Numbered : ℕ → Type 0
-Numbered k = T (ltb 1 k && ltb k (inputNumber inputs))
-
-pub numbered-is : (k : ℕ) → Numbered k → (1 < k) × (k < inputNumber inputs)
-numbered-is k t = (ltb→lt 1 k (and-l (ltb 1 k) (ltb k (inputNumber inputs)) t), ltb→lt k (inputNumber inputs) (and-r (ltb 1 k) (ltb k (inputNumber inputs)) t))
+Numbered k = Between 1 (inputNumber inputs) k
 
 pub others-numbered : Others Numbered
-others-numbered = record { p2 = tt; p3 = tt; p4 = tt; p5 = tt; p6 = tt; p7 = tt; p8 = tt; p14 = tt }
+others-numbered = record { p2 = tt; p5 = tt; p6 = tt; p7 = tt; p14 = tt }
 
 pub first-numbered : (mu : Float) (r v : Vector) (last : Float) → AtFirst Numbered (numbersGiven mu r v last)
 first-numbered mu r v last place f =
@@ -104,7 +96,7 @@ inputs-named : (mu : Float) (r v : Vector) (last : Float) (place : ℕ) → Firs
 unfolding inputsTested onward
 inputs-named mu r v last place f = rw (first-refused inputNumber (numbersGiven mu r v last) place f) refl
 
-pub first-refuses : (p : Problem) (place : ℕ) → FirstNotFinite (numbersOf p) place → entryOf p ≡ refuse (inputNumber place)
+pub first-refuses : (p : Problem) (place : ℕ) → FirstNotFinite (problemNumbers p) place → entryOf p ≡ refuse (inputNumber place)
 unfolding entryOf onward
 first-refuses p place f = rw (inputs-named (p .mu) (p .r) (p .v) (p .dt) place f) refl
 
@@ -121,7 +113,7 @@ pub no-input : {list : List Float} (k : ℕ) → isInput k ≡ false → NamesFi
 no-input k e h = absurd (true≢false (sym h ∙ e))
 
 pub others-name : (list : List Float) → Others (NamesFirst list)
-others-name list = record { p2 = no-input 2 refl; p3 = no-input 3 refl; p4 = no-input 4 refl; p5 = no-input 5 refl; p6 = no-input 6 refl; p7 = no-input 7 refl; p8 = no-input 8 refl; p14 = no-input 14 refl }
+others-name list = record { p2 = no-input 2 refl; p5 = no-input 5 refl; p6 = no-input 6 refl; p7 = no-input 7 refl; p14 = no-input 14 refl }
 
 pub first-names : (list : List Float) → AtFirst (NamesFirst list) list
 first-names list place f h = (place, refl, f)

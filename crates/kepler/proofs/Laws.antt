@@ -14,13 +14,13 @@ use Rattle.conic.specs.declared.Problem.{Problem}
 use Rattle.conic.specs.declared.Scaled.{Scaled}
 use Rattle.conic.specs.declared.State.{State}
 use Rattle.rows.specs.Rows.{pass, refuse}
-use Rattle.conic.specs.Said.{inputNumber}
+use Rattle.conic.specs.Said.{problemNumbers, inputNumber}
 use Rattle.conic.specs.TimeAndRatio.{timeAt}
 use Rattle.conic.specs.Unfolding.{arrivalAt}
 use Rattle.conic.proofs.Arrival.{arrival-refuses}
 use Rattle.units.proofs.Places.{FirstNotFinite}
 use Rattle.entry.specs.Entry.{entryOf}
-use Rattle.entry.proofs.Refusals.{numbersOf, Others, AtFirst, entry-refuses, Numbered, others-numbered, first-numbered, NamesFirst, no-input, others-name, first-names, first-refuses}
+use Rattle.entry.proofs.Refusals.{Others, AtFirst, entry-refuses, Numbered, others-numbered, first-numbered, NamesFirst, no-input, others-name, first-names, first-refuses}
 use Rattle.entry.proofs.Passed.{entered}
 use Rattle.entry.proofs.Fair.{fair}
 use Rattle.kepler.specs.Kepler.{wantedTime, keplerOf}
@@ -46,18 +46,18 @@ module _ (p : Problem) where
   unfolding keplerOf
   counts = search.counts timeAt wantedTime arrivalAt (p .limit) (entryOf p) least
 
-  module _ {P : ℕ → Type 0} (others : Others P) (p9 : P 9) (p10 : P 10) (p11 : P 11) (at-first : AtFirst P (numbersOf p)) where
+  module _ {P : ℕ → Type 0} (others : Others P) (p3 : P 3) (p8 : P 8) (p9 : P 9) (p10 : P 10) (p11 : P 11) (at-first : AtFirst P (problemNumbers p)) where
     refusals-have : RefusalHas P P (keplerOf p)
     unfolding keplerOf
-    refusals-have = search.refusal-numbered timeAt wantedTime arrivalAt (p .limit) (entryOf p) P (others .p6) p9 p10 (entry-refuses others p at-first) (arrival-refuses p11 (others .p6))
+    refusals-have = search.refusal-numbered timeAt wantedTime arrivalAt (p .limit) (entryOf p) P (others .p6) p9 p10 (entry-refuses others p3 p8 p at-first) (arrival-refuses p11 (others .p6))
 
   pub refusal-numbered : RefusalHas Numbered Numbered (keplerOf p)
-  refusal-numbered = refusals-have others-numbered tt tt tt (first-numbered (p .mu) (p .r) (p .v) (p .dt))
+  refusal-numbered = refusals-have others-numbered tt tt tt tt tt (first-numbered (p .mu) (p .r) (p .v) (p .dt))
 
-  pub names-first : RefusalHas (NamesFirst (numbersOf p)) (NamesFirst (numbersOf p)) (keplerOf p)
-  names-first = refusals-have (others-name (numbersOf p)) (no-input 9 refl) (no-input 10 refl) (no-input 11 refl) (first-names (numbersOf p))
+  pub names-first : RefusalHas (NamesFirst (problemNumbers p)) (NamesFirst (problemNumbers p)) (keplerOf p)
+  names-first = refusals-have (others-name (problemNumbers p)) (no-input 3 refl) (no-input 8 refl) (no-input 9 refl) (no-input 10 refl) (no-input 11 refl) (first-names (problemNumbers p))
 
-  pub first-named : (place : ℕ) → FirstNotFinite (numbersOf p) place → keplerOf p ≡ refused (inputNumber place) 0
+  pub first-named : (place : ℕ) → FirstNotFinite (problemNumbers p) place → keplerOf p ≡ refused (inputNumber place) 0
   first-named place f = refused-before (inputNumber place) (first-refuses p place f)
 
   pub times-kept : (o : Scaled) (b : Bracket) → entryOf p ≡ pass (o, b) → (new : Bracket) → Names (searchOf (timeAt o) (o .t) (p .limit) b) new → (new .lo .time ≡ timeAt o (new .lo .x)) × (new .hi .time ≡ timeAt o (new .hi .x))

@@ -1,7 +1,9 @@
 -- Laws of rows of tests: what a row that passes says of each of its tests, and what each number has with which one can refuse.
 use mathlib.Core.Path.{_≡_, refl, subst}
-use mathlib.Core.Bool.{Bool, true, false, cond, true≢false}
-use Prim.Native.Nat.{ℕ}
+use mathlib.Core.Bool.{Bool, true, false, cond, true≢false, _&&_}
+use Prim.Native.Nat.{ℕ, _<_}
+use lib.Dec.{T, ltb, ltb→lt}
+use lib.Ieee.Fits.{and-l, and-r}
 use Rattle.rows.specs.Rows.{Checked, pass, refuse, must, onward}
 
 pub pass-once : {A : Type 0} {x y : A} → _≡_ {A = Checked A} (pass x) (pass y) → x ≡ y
@@ -34,6 +36,13 @@ takenBack passed failed (refuse k) = failed k
 pub data Refuses {A : Type 0} (P : ℕ → Type 0) : Checked A → Type 0 where
   passes : {x : A} → Refuses P (pass x)
   refuses : {k : ℕ} → P k → Refuses P (refuse k)
+
+-- a number above a and below b, as a test that antt decides of numerals
+abbrev pub Between : (a b k : ℕ) → Type 0
+Between a b k = T (ltb a k && ltb k b)
+
+pub between-is : (a b k : ℕ) → Between a b k → (a < k) × (k < b)
+between-is a b k t = (ltb→lt a k (and-l (ltb a k) (ltb k b) t), ltb→lt k b (and-r (ltb a k) (ltb k b) t))
 
 module _ {A : Type 0} {P : ℕ → Type 0} where
   pub must-refuses : (t : Bool) (k : ℕ) (rest : Checked A) → P k → Refuses P rest → Refuses P (must t k rest)

@@ -8,7 +8,7 @@ use Rattle.search.proofs.Answers.{RefusalHas, found-numbered}
 use Rattle.rows.specs.Rows.{onward}
 use Rattle.rows.proofs.Laws.{Refuses, must-refuses, onward-refuses}
 use Rattle.vectors.specs.declared.Vector.{Vector}
-use Rattle.units.specs.Units.{numbersGiven}
+use Rattle.vectors.specs.Vectors.{numbersGiven}
 use Rattle.units.proofs.Places.{FirstNotFinite}
 use Rattle.units.proofs.Refusals.{root-refuses}
 use Rattle.conic.specs.declared.Scaled.{Scaled}
@@ -19,7 +19,7 @@ use Rattle.entry.proofs.Refusals.{Others, AtFirst, angle-entry-refuses, Numbere
 use Rattle.theta.specs.Theta.{reachedState, turnedState, thetaOf}
 
 module _ (mu : Float) (r v : Vector) (a : Float) where
-  module _ {P : ℕ → Type 0} (others : Others P) (p11 : P 11) (p12 : P 12) (at-first : AtFirst P (numbersGiven mu r v a)) where
+  module _ {P : ℕ → Type 0} (others : Others P) (p4 : P 4) (p11 : P 11) (p12 : P 12) (at-first : AtFirst P (numbersGiven mu r v a)) where
     reaching-refuses : (o : Scaled) (k sh ch : Float) → Refuses P (reachedState o k sh ch)
     unfolding reachedState
     reaching-refuses o k sh ch = must-refuses _ 12 _ p12 (unfolding-refuses p11 (others .p6) o _ _ _)
@@ -30,13 +30,13 @@ module _ (mu : Float) (r v : Vector) (a : Float) where
 
     refusals-have : RefusalHas P P (thetaOf mu r v a)
     unfolding thetaOf
-    refusals-have = found-numbered P a 0 (onward (angleEntryOf mu r v a) (λ o. turnedState o a)) (onward-refuses _ _ (angle-entry-refuses others mu r v a at-first) turning-refuses)
+    refusals-have = found-numbered P a 0 (onward (angleEntryOf mu r v a) (λ o. turnedState o a)) (onward-refuses _ _ (angle-entry-refuses others p4 mu r v a at-first) turning-refuses)
 
   pub refusal-numbered : RefusalHas Numbered Numbered (thetaOf mu r v a)
-  refusal-numbered = refusals-have others-numbered tt tt (first-numbered mu r v a)
+  refusal-numbered = refusals-have others-numbered tt tt tt (first-numbered mu r v a)
 
   pub names-first : RefusalHas (NamesFirst (numbersGiven mu r v a)) (NamesFirst (numbersGiven mu r v a)) (thetaOf mu r v a)
-  names-first = refusals-have (others-name _) (no-input 11 refl) (no-input 12 refl) (first-names _)
+  names-first = refusals-have (others-name _) (no-input 4 refl) (no-input 11 refl) (no-input 12 refl) (first-names _)
 
   pub first-named : (place : ℕ) → FirstNotFinite (numbersGiven mu r v a) place → thetaOf mu r v a ≡ refused (inputNumber place) 0
   unfolding thetaOf onward

@@ -9,11 +9,7 @@ use Rattle.root.specs.Said as root
 use Rattle.root.specs.Root.{rootOf}
 use Rattle.rows.specs.Rows.{Checked, pass, refuse, must}
 use Rattle.vectors.specs.declared.Vector.{Vector}
-use Rattle.vectors.specs.Vectors.{dot}
-
--- the eight numbers that are given, by their places from 0 on: mu, two vectors, and the time or the angle
-abbrev pub numbersGiven : (mu : Float) (a b : Vector) (last : Float) → List Float
-numbersGiven mu a b last = mu ∷ a .x ∷ a .y ∷ a .z ∷ b .x ∷ b .y ∷ b .z ∷ last ∷ []
+use Rattle.vectors.specs.Vectors.{dot, numbersGiven}
 
 -- a test for each number in its turn: it is finite, or the row refuses with the number that the caller gives to its place
 unfoldable pub finiteFrom : (number : ℕ → ℕ) (place : ℕ) → List Float → Checked (Unit {0})

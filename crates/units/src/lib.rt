@@ -6,7 +6,6 @@
 use root::Answer;
 use vectors::Vector;
 ghost use mathlib.Core.Path.{_≡_};
-ghost use lib.ListN.{length};
 ghost use Rattle.units.specs.Units.{byPlace, finiteFrom, givenTested, isUsable, radiusOf, unitOf};
 ghost use Rattle.units.specs.Said.{givenSaid, lengthSaid, unitSaid};
 
@@ -38,7 +37,6 @@ pub fn given(mu: f64, a: Vector, b: Vector, last: f64) -> Finite
 }
 
 fn first_not_finite(numbers: [f64; 8]) -> Finite
-    requires { ⌜ length numbers ≡ 8 ⌝ }
     ensures { λ x. ⌜ givenSaid x ≡ finiteFrom byPlace 0 numbers ⌝ }
 {
     let mut place = 0u8;

@@ -1,5 +1,6 @@
 -- Vectors by component: RULES, From the state to the scaled problem, and Unfolding. Definitions only.
 use mathlib.Core.Bool.{Bool, _&&_}
+use mathlib.Core.List.{List, [], _∷_}
 use lib.Ieee.{Float}
 use Rattle.exact.specs.Numbers.{_⊕_, _⊗_, _⊘_, isFinite}
 use Rattle.vectors.specs.declared.Vector.{Vector}
@@ -22,3 +23,7 @@ dot a b = a .x ⊗ b .x ⊕ a .y ⊗ b .y ⊕ a .z ⊗ b .z
 -- a/k, by component
 abbrev pub over : Vector → Float → Vector
 over a k = record { x = a .x ⊘ k; y = a .y ⊘ k; z = a .z ⊘ k }
+
+-- a number, two vectors and a number, by their places from 0 on: mu, r, v, dt of a problem; mu, r1, r2, dt of a transfer
+abbrev pub numbersGiven : (mu : Float) (a b : Vector) (last : Float) → List Float
+numbersGiven mu a b last = mu ∷ a .x ∷ a .y ∷ a .z ∷ b .x ∷ b .y ∷ b .z ∷ last ∷ []

@@ -16,6 +16,7 @@ use Rattle.spelled.proofs.Length.{length-bytes}
 use Rattle.words.proofs.Written.{valueAt-back, valueAt-bytes, valueAt-last}
 use Rattle.conic.specs.declared.State.{State}
 use Rattle.rows.specs.Rows.{Checked, pass}
+use Rattle.rows.proofs.Laws.{between-is}
 use Rattle.search.specs.Answers as answer
 use Rattle.conic.specs.Said as conic
 use Rattle.conic.specs.Unfolding.{stateAt}
@@ -27,7 +28,7 @@ use Rattle.lambert.specs.Lambert.{lambertOf}
 use Rattle.transfer_verdict.proofs.Made as transfer
 use Rattle.kepler.specs.Kepler.{keplerOf}
 use Rattle.search.proofs.Answers.{RefusalHas}
-use Rattle.entry.proofs.Refusals.{numbersOf, Numbered, numbered-is, first-numbered}
+use Rattle.entry.proofs.Refusals.{Numbered, first-numbered}
 use Rattle.units.proofs.Places.{FirstNotFinite}
 use Rattle.kepler.proofs.Laws.{refusal-numbered, first-named, IsSolved, solved-means}
 use Rattle.card.specs.declared.Kind.the-variants as kind
@@ -101,7 +102,7 @@ module _ (given : List ℕ) (sized : length given ≡ problemSize) where
   means-itself k = rw (is-true (eqb k k) (eqb-refl k)) refl
 
   refusal-read : (k : ℕ) → Numbered k → refusalOf (refusedBody given k) ≡ k
-  refusal-read k small = behind-spare (bytesOf 4 k ++ spare) 4 0 ∙ valueAt-bytes 4 k spare (omega (arith, numbered-is k small .1))
+  refusal-read k small = behind-spare (bytesOf 4 k ++ spare) 4 0 ∙ valueAt-bytes 4 k spare (omega (arith, between-is 1 (conic.inputNumber conic.inputs) k small .1))
 
   refused-made : (k : ℕ) → Numbered k → isRefusedWith (keplerOf (problemOf given)) k ≡ true → numberIn (verdictOn kind.Refused (refusedBody given k)) ≡ 0
   unfolding verdictOn
@@ -119,7 +120,7 @@ module _ (given : List ℕ) (sized : length given ≡ problemSize) where
 
   -- ---- of a number that is not finite: the card has its number
 
-  pub made-names : (place : ℕ) → FirstNotFinite (numbersOf (problemOf given)) place → let made = cardFor given (keplerOf (problemOf given)) in (made .kind ≡ kind.Refused) × (refusalOf (made .body) ≡ conic.inputNumber place)
+  pub made-names : (place : ℕ) → FirstNotFinite (conic.problemNumbers (problemOf given)) place → let made = cardFor given (keplerOf (problemOf given)) in (made .kind ≡ kind.Refused) × (refusalOf (made .body) ≡ conic.inputNumber place)
   made-names place f = rw (first-named (problemOf given) place f) (refl, refusal-read (conic.inputNumber place) (first-numbered _ _ _ _ place f))
 
 -- ---- a solved transfer: each that we solve, made into a card

@@ -7,17 +7,18 @@ use mathlib.Core.Bool.{Bool, true, false, true≢false, _&&_, _||_}
 use mathlib.Core.List.{List}
 use Prim.Native.Nat.{ℕ, _<_}
 use native.Mathlib.Omega.{arith}
-use borrow.Author.Tests.{eqb-true, eq-eqb}
+use borrow.Author.Tests.{eqb-true, eq-eqb, ne-eqb}
 use lib.Dec.{leb, ltb, eqb, le→leb, lt→ltb}
 use lib.Ieee.{Float}
 use Rattle.exact.proofs.Basics.{both}
 use Rattle.rows.specs.Rows.{Checked, must, onward}
+use Rattle.rows.proofs.Laws.{between-is}
 use Rattle.units.proofs.Places.{FirstNotFinite}
 use Rattle.search.specs.Answers as answer
 use Rattle.search.proofs.Answers.{RefusalHas}
 use Rattle.conic.specs.Said as conic
-use Rattle.conic.specs.Said.{inputNumber, inputs, isInput, isMeantBy}
-use Rattle.entry.proofs.Refusals.{numbersOf, Numbered, numbered-is, NamesFirst, first-refuses}
+use Rattle.conic.specs.Said.{problemNumbers, inputNumber, inputs, isInput, isMeantBy}
+use Rattle.entry.proofs.Refusals.{Numbered, NamesFirst, first-refuses}
 use Rattle.kepler.specs.Kepler.{keplerOf}
 use Rattle.kepler.proofs.Laws.{refusal-numbered, names-first, first-named}
 use Rattle.card.specs.declared.Kind.the-variants as kind
@@ -32,21 +33,13 @@ use Rattle.verdict.proofs.Accepted.{refused-means}
 
 -- of a number above 1 that 1 means, one of the eight
 one-means : (k : ℕ) → Numbered k → isMeantBy k 1 ≡ true → isInput k ≡ true
-one-means k small h = go (eqb k 1) refl h
-  where
-    go : (b : Bool) → eqb k 1 ≡ b → b || (true && isInput k) ≡ true → isInput k ≡ true
-    go true e g = absurd (omega (arith, eqb-true k 1 e, numbered-is k small .0))
-    go false e g = g
+one-means k small h = rw (ne-eqb k 1 (λ e. omega (arith, e, between-is 1 (inputNumber inputs) k small .0))) at h
 
 means-one : (place : ℕ) → place < inputs → isMeantBy (inputNumber place) 1 ≡ true
 means-one place h =
     let k = inputNumber place in
     let yes : isInput k ≡ true = both (leb (inputNumber 0) k) (ltb k (inputNumber inputs)) .1 (le→leb (inputNumber 0) k (omega arith), lt→ltb k (inputNumber inputs) (omega arith)) in
-    ap (λ (b : Bool). eqb k 1 || (true && b)) yes ∙ either (eqb k 1)
-  where
-    either : (b : Bool) → b || true ≡ true
-    either true = refl
-    either false = refl
+    rw (ne-eqb k 1 (λ e. omega (arith, e)), yes) refl
 
 -- where 1 means Kepler's refusal, a number that is given is not finite
 module _ (list : List Float) where
@@ -95,12 +88,12 @@ module _ (body : List ℕ) where
       there z =
           let p = problemOf body in
           let given = subst (λ (k : ℕ). isRefusedWith (keplerOf p) k ≡ true) e (refused-means body z .2) in
-          let first = first-of (numbersOf p) (keplerOf p) (refusal-numbered p) (names-first p) given in
+          let first = first-of (problemNumbers p) (keplerOf p) (refusal-numbered p) (names-first p) given in
           (first .0, first .1 .inside, first-named p (first .0) (first .1))
 
       back : (place : ℕ) × (place < inputs) × (keplerOf (problemOf body) ≡ answer.refused (inputNumber place) 0) → numberIn (verdictOn kind.Refused body) ≡ 0
       back (place, h, k) = accepted s l (rw (k, e) (means-one place h))
 
-  pub solved-not-finite : (place : ℕ) → spareOf body ≡ 0 → FirstNotFinite (numbersOf (problemOf body)) place → verdictOn kind.Solved body ≡ rejected (inputNumber place)
+  pub solved-not-finite : (place : ℕ) → spareOf body ≡ 0 → FirstNotFinite (problemNumbers (problemOf body)) place → verdictOn kind.Solved body ≡ rejected (inputNumber place)
   unfolding verdictOn solvedCard must onward
   solved-not-finite place s f = rw (eq-eqb (spareOf body) 0 s, first-refuses (problemOf body) place f) refl

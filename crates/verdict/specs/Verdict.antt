@@ -44,7 +44,7 @@ isRefusedWith (answer.solved x n state) k = false
 isRefusedWith (answer.refused why n) k = conic.isMeantBy why k
 isRefusedWith (answer.refusedWithBracket why n lo hi) k = conic.isMeantBy why k
 
--- Verdicts 9 to 11: 23 for either spare; 24 where Kepler does not give the card's number; else accepted
+-- Verdicts 9 to 11: 23 for either spare; 24 where Kepler does not refuse with what the card's number means; else accepted
 unfoldable pub refusedCard : List ℕ → Checked (Unit {0})
 refusedCard body =
     must (eqb (spareOf body) 0 && eqb (lastSpareOf body) 0) 23

@@ -28,7 +28,7 @@ array-read-finite : tie.Need-array-read-finite Inv-loop μ-loop
 array-read-finite c = omega arith
 
 returns : tie.Need-returns Inv-loop μ-loop
-returns c = sym (sym (c .before .before .before .loop .inv .1) ∙ stopped byPlace (c .before .before .before .before .args .t1) (c .before .before .before .loop .place) (omega (arith, c .before .before .before .before .pre)) (sym (c .before .finite .ensures) ∙ not-true (c .before .finite .result) (c .if1 .taken)))
+returns c = sym (sym (c .before .before .before .loop .inv .1) ∙ stopped byPlace (c .before .before .before .before .args .t1) (c .before .before .before .loop .place) (omega arith) (sym (c .before .finite .ensures) ∙ not-true (c .before .finite .result) (c .if1 .taken)))
 
 add-place : tie.Need-add-place Inv-loop μ-loop
 add-place c = omega arith
@@ -37,10 +37,10 @@ loop-less : tie.Need-loop-less Inv-loop μ-loop
 loop-less c = omega arith
 
 loop-again : tie.Need-loop-again Inv-loop μ-loop
-loop-again c = (omega arith, sym (one-on byPlace (c .before .before .before .before .args .t1) (c .before .before .before .loop .place) (omega (arith, c .before .before .before .before .pre)) (sym (c .before .finite .ensures) ∙ not-false (c .before .finite .result) (c .if1 .left))) ∙ c .before .before .before .loop .inv .1)
+loop-again c = (omega arith, sym (one-on byPlace (c .before .before .before .before .args .t1) (c .before .before .before .loop .place) (omega arith) (sym (c .before .finite .ensures) ∙ not-false (c .before .finite .result) (c .if1 .left))) ∙ c .before .before .before .loop .inv .1)
 
 returns-2 : tie.Need-returns-2 Inv-loop μ-loop
-returns-2 c = sym (sym (c .before .loop .inv .1) ∙ all-tested byPlace (c .before .before .args .t1) (c .before .loop .place) (omega (arith, c .before .before .pre)))
+returns-2 c = sym (sym (c .before .loop .inv .1) ∙ all-tested byPlace (c .before .before .args .t1) (c .before .loop .place) (omega arith))
 
 pub first-not-finite-spec : {M : Type 1} → statement M
 first-not-finite-spec = tie.close (tie.spec Inv-loop μ-loop loop-holds cast-finite mul-finite array-read-finite (λ c κs. search needs) returns add-place loop-less loop-again returns-2)
