@@ -1,7 +1,7 @@
 -- The numbers on refused cards, and cards from before. One with the number 1, as cards from before have it, is accepted exactly where Kepler refuses
 -- with one of 101 to 108 (`before-exactly`), and one with another number exactly where Kepler gives that number (`own-exactly`). A solved card whose
 -- problem has a number that is not finite is rejected with that one's number (`solved-not-finite`).
-use mathlib.Core.Path.{_≡_, refl, sym, ap, _∙_, subst}
+use mathlib.Core.Path.{_≡_, refl, sym, ap, subst}
 use mathlib.Core.Logic.{_↔_}
 use mathlib.Core.Bool.{Bool, true, false, true≢false, _&&_, _||_}
 use mathlib.Core.List.{List}
