@@ -73,13 +73,16 @@ static int start(const Scaled *o, Bracket *b)
     return 0;
 }
 
-/* 101 to 108, by the place of the first number that is not finite. */
+/* The refusals of the eight numbers given begin with 101; a card from before has 1 for each of them. */
+enum { FIRST_INPUT = 101, ANY_INPUT = 1 };
+
+/* By the place of the first number that is not finite. */
 static int first_not_finite(const Problem *p)
 {
     const double given[] = { p->mu, p->r.x, p->r.y, p->r.z, p->v.x, p->v.y, p->v.z, p->dt };
     for (int place = 0; place < 8; place++)
         if (!is_finite(given[place]))
-            return 101 + place;
+            return FIRST_INPUT + place;
     return 0;
 }
 
@@ -199,8 +202,8 @@ static uint32_t judge_refused(const uint8_t *body)
     if (half(body + 68) != 0 || half(body + 76) != 0)
         return 23;
     Problem p = problem_of(body);
-    uint32_t refusal = kepler(&p).refusal, number = half(body + 72);
-    int meant = refusal == number || (number == 1 && refusal >= 101);
+    uint32_t refusal = kepler(&p).refusal, told = half(body + 72);
+    int meant = refusal == told || (told == ANY_INPUT && refusal >= FIRST_INPUT);
     return refusal && meant ? 0 : 24;
 }
 

@@ -75,8 +75,9 @@ show prints for each card its place, kind and verdict, the problem and the answe
 few digits as read back as the same number; then the totals, and mean and worst in seconds. They and
 the verdicts are check's. Of a deck that is refused it says why, and prints nothing. With --problems
 it prints a line for each card, in 17 digits, that write reads back to the bit: of a deck that write
-has written, write makes the same bytes again. write takes no transfers: they are left out, and it
-says on standard error how many.
+has written, write makes the same bytes again, but for a refused card from before with 1, which gets
+its own number of 101 to 108. write takes no transfers: they are left out, and it says on standard
+error how many.
 
 why prints what docs/REFUSALS.md says of the NUMBER of a refusal or verdict, written as in the lines
 above: 22, and not 022. Without a NUMBER it prints each that there is, and in short what it means.

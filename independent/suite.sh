@@ -10,10 +10,12 @@ each() { # KIND NUMBER...
     printf '%s' "${list#, }"
 }
 
-# Of a prediction's eight numbers each one not finite alone, and each two together.
+# Of a prediction's eight numbers each one not finite alone, and each two together; and with what 2 and 5 would
+# refuse.
 not_finite() {
     local low high
     each 'not finite # alone: 90' {1..8}
+    printf ', not finite before 2: 700, not finite before 5: 200'
     for low in {1..7}; do
         for ((high = low + 1; high <= 8; high++)); do printf ', not finite %s and %s: 30' "$low" "$high"; done
     done
@@ -63,13 +65,13 @@ overflow by times in seconds: 30, overflow by sums of times: 40, $(each 'fine nu
 fine number of a later place: 90, fine number of another place: 500, fine number for a solved problem: 14, \
 $(each 'fine number for #: 14' 2 3 {5..11}), old card 0: 600, old card 23: 45, old card 24: 2000, \
 $(each 'old card for #: 75' {101..108}), $(each 'old card for #: 25' 2 3 {5..11}), \
-old card for a solved problem: 2000, old card but for a bit: 140, old and new accepted: 150"
+old card for a solved problem: 2000, old card but for a bit: 140, old and new accepted: 150, longest listing: 1"
     "write_deck .problems 500 written: 500, solved: 3000, $(each 'refused #: 50' {101..108}), refused 2: 100, \
 refused 3: 100, refused 5: 50, refused 6: 50, refused 7: 50, refused 8: 50, refused 9: 32, refused 10: 50, refused 11: 50, \
 deck 40: 10, deck 46: 100, cards 0: 4, cards 1: 100, cards 2: 4, cards 255: 3, cards 256: 6, cards between: 100"
     "copy_deck .deck 600 same: 500, cleared: 60, deck 30: 8, deck 31: 2, deck 32: 2, deck 33: 2, deck 34: 2, \
 deck 35: 2, deck 36: 2, deck 37: 2, deck 38: 2, cards 0: 2, cards 1: 2, cards 2: 2, cards 255: 1, \
-cards 256: 2, cards between: 400, with transfer: 60, refused with transfer: 10, with old card: 200"
+cards 256: 2, cards between: 400, with transfer: 60, refused with transfer: 10, with old card: 260"
 )
 
 independent=independent/target/release/independent

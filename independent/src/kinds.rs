@@ -8,12 +8,15 @@ use crate::deck::{self, ENTRIES, ENTRY, MOST_CARDS};
 use crate::kepler::PROBLEM;
 use crate::units;
 
+/// The bytes of the longest listing that there is.
+const LONGEST: usize = 5_087;
+
 /// A card of a deck that is accepted, and its verdict.
 pub type Judged<'a> = (&'a Card, &'a str);
 
 /// Of a listing: the kind and the verdict of each card, or the deck's refusal; whether the deck has a
-/// transfer, and is refused with it; and the kinds of its refused cards' numbers and of its units. A
-/// listing calls a transfer solved; here it is told apart.
+/// transfer, and is refused with it; whether there is no longer listing; and the kinds of its refused cards'
+/// numbers and of its units. A listing calls a transfer solved; here it is told apart.
 pub fn listed(deck: &[u8], listing: &[u8]) -> Vec<String> {
     let listing = String::from_utf8_lossy(listing);
     let mut entries = entries(deck);
@@ -27,6 +30,7 @@ pub fn listed(deck: &[u8], listing: &[u8]) -> Vec<String> {
     };
     let mut kinds: Vec<String> = listing.lines().filter_map(&mut kind).collect();
     kinds.extend(with_transfer(deck, listing.starts_with("deck ")));
+    kinds.extend((listing.len() == LONGEST).then(|| "longest listing".to_string()));
     let cards = deck::cards(deck).unwrap_or_default();
     let verdicts = listing.lines().filter_map(verdict);
     let judged: Vec<Judged> = cards.iter().zip(verdicts).collect();

@@ -27,7 +27,21 @@ const PLACES: u64 = 2;
 
 /// Of a problem of Kepler's or of Theta's, which begin alike.
 pub fn of_prediction(problem: &[u8]) -> Vec<String> {
-    not_finite(&words_from_bytes(problem)).into_iter().collect()
+    let words = words_from_bytes(problem);
+    let spoilt = not_finite(&words).into_iter();
+    spoilt
+        .flat_map(|one| [one].into_iter().chain(later(&words)))
+        .collect()
+}
+
+/// What a later test would refuse, where its own numbers are finite: mu, or a radius of 0.
+fn later(words: &Words) -> Vec<String> {
+    let [mu, x, y, z, ..] = words.map(f64::from_bits);
+    let refused = [(2, mu <= 0.0 && mu.is_finite()), (5, [x, y, z] == [0.0; 3])];
+    let numbers = refused.into_iter().filter(|(_, holds)| *holds);
+    numbers
+        .map(|(number, _)| format!("not finite before {number}"))
+        .collect()
 }
 
 pub fn of_transfer(input: &Input) -> Vec<String> {
