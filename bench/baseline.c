@@ -76,7 +76,7 @@ static int start(const Scaled *o, Bracket *b)
 /* The refusals of the eight numbers given begin with 101; a card from before has 1 for each of them. */
 enum { FIRST_INPUT = 101, ANY_INPUT = 1 };
 
-/* By the place of the first number that is not finite. */
+/* The refusal by the place of the first number that is not finite; 0 where there is none. */
 static int first_not_finite(const Problem *p)
 {
     const double given[] = { p->mu, p->r.x, p->r.y, p->r.z, p->v.x, p->v.y, p->v.z, p->dt };

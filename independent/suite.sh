@@ -12,9 +12,9 @@ each() { # KIND NUMBER...
 
 # Of a prediction's eight numbers each one not finite alone, and each two together; and with what 2 and 5 would
 # refuse.
-not_finite() {
+not_finite() { # LEAST_ALONE
     local low high
-    each 'not finite # alone: 90' {1..8}
+    each "not finite # alone: $1" {1..8}
     printf ', not finite before 2: 700, not finite before 5: 200'
     for low in {1..7}; do
         for ((high = low + 1; high <= 8; high++)); do printf ', not finite %s and %s: 30' "$low" "$high"; done
@@ -30,9 +30,9 @@ suites=(
     "roots 8 20000 refused 1: 1000, refused 13: 1000, root: 20000"
     "root_digits 8 9000 refused 1: 100, refused 13: 430, root: 8500, rounded: 8500, turn: 459000"
     "predict 68 20000 $(each 'refused #: 100' {101..108}), refused 2: 20, refused 3: 20, refused 5: 20, refused 6: 20, \
-refused 7: 20, refused 8: 20, refused 9: 20, refused 10: 20, refused 11: 20, solved: 10000, $(not_finite)"
+refused 7: 20, refused 8: 20, refused 9: 20, refused 10: 20, refused 11: 20, solved: 10000, $(not_finite 120)"
     "turn 64 10000 $(each 'refused #: 100' {101..108}), refused 2: 20, refused 4: 20, refused 5: 20, refused 6: 20, \
-refused 7: 20, refused 11: 20, refused 12: 20, solved: 5000, $(not_finite)"
+refused 7: 20, refused 11: 20, refused 12: 20, solved: 5000, $(not_finite 100)"
     "transfer 72 20000 refused 1: 20, refused 2: 20, refused 3: 20, refused 5: 20, refused 6: 20, refused 9: 20, \
 refused 10: 20, refused 23: 20, refused 50: 20, refused 51: 20, refused 52: 20, solved: 10000, short: 6000, long: 6000, \
 limit 1: 800, limit 2: 800, limit 20: 2000, limit 100: 6000, $(each 'not finite # alone: 40' {1..8}), \

@@ -54,8 +54,8 @@ fn nearly_old(card: &Card) -> Option<String> {
     right.then(|| "old card but for a bit".to_string())
 }
 
-/// Where the number is wrong, all eight numbers may be finite, the one at its place among others, or none
-/// of both.
+/// A wrong number: all eight are finite; or the one that it names is not, and an earlier one is not
+/// either; or only others are not.
 fn fine(card: &Card, number: u32, verdict: &str) -> Option<String> {
     let spoilt: Vec<u32> = not_finite(&card.problem.words, BY_PLACE).collect();
     match verdict {

@@ -5,7 +5,7 @@ use crate::conic::{Orbit, Vector, Words};
 use crate::kepler::{far_end, Input};
 use crate::kepler_edges;
 use crate::motion::{self, orbit_of, with, Frame, PLAIN, SPAN};
-use crate::spoilt::{self, REFUSED_LATER};
+use crate::spoilt::{self, ALTERED};
 use crate::universal::{functions, Functions};
 
 /// The limits at the edges of what is allowed, some between, and some of which a part of the bytes
@@ -110,8 +110,8 @@ pub fn trials() -> Vec<Input> {
 fn not_finite(chance: &mut Chance) -> Vec<Input> {
     let mut list = Vec::new();
     for limit in [100, 0] {
-        for refused in REFUSED_LATER {
-            let words = refused(ordinary(chance));
+        for altered in ALTERED {
+            let words = altered(ordinary(chance));
             let spoilt = spoilt::alone_and_in_pairs(words, chance).into_iter();
             list.extend(spoilt.map(|words| Input { words, limit }));
         }

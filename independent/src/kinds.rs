@@ -15,8 +15,8 @@ const LONGEST: usize = 5_087;
 pub type Judged<'a> = (&'a Card, &'a str);
 
 /// Of a listing: the kind and the verdict of each card, or the deck's refusal; whether the deck has a
-/// transfer, and is refused with it; whether there is no longer listing; and the kinds of its refused cards'
-/// numbers and of its units. A listing calls a transfer solved; here it is told apart.
+/// transfer, and is refused with it; whether its listing is the longest that there is; and the kinds of its
+/// refused cards' numbers and of its units. A listing calls a transfer solved; here it is told apart.
 pub fn listed(deck: &[u8], listing: &[u8]) -> Vec<String> {
     let listing = String::from_utf8_lossy(listing);
     let mut entries = entries(deck);

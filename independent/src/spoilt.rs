@@ -17,8 +17,8 @@ pub const NOT_FINITE: [u64; 8] = [
     0xffff_ffff_ffff_ffff,
 ];
 
-/// The problem as it is, and with what a later test refuses: mu -1, mu 0, and a radius of 0.
-pub const REFUSED_LATER: [fn(Words) -> Words; 4] = [
+/// Ways to alter a problem: none, and so that a later test refuses it, by mu -1, mu 0 or a radius of 0.
+pub const ALTERED: [fn(Words) -> Words; 4] = [
     |words| words,
     |words| with(words, 0, (-1f64).to_bits()),
     |words| with(words, 0, 0),
@@ -37,7 +37,7 @@ pub fn each(words: Words) -> Vec<Words> {
         .collect()
 }
 
-/// The problem with one word after the other made some NaN.
+/// The problem with one word after the other made one by chance.
 pub fn each_with_payload(words: Words, chance: &mut Chance) -> Vec<Words> {
     (0..words.len())
         .map(|place| with(words, place, payload(chance)))
@@ -64,7 +64,7 @@ pub fn alone_and_in_pairs(words: Words, chance: &mut Chance) -> Vec<Words> {
 
 /// The problem with one word that is not finite, or a few, and at times with what a later test refuses.
 pub fn by_chance(words: Words, chance: &mut Chance) -> Words {
-    let words = chance.one_of(&REFUSED_LATER)(words);
+    let words = chance.one_of(&ALTERED)(words);
     let count = chance.one_of(&[1, 1, 1, 2, 3]);
     (0..count).fold(words, |words, _| {
         with(words, chance.below(8) as usize, some(chance))

@@ -4,7 +4,7 @@ use crate::chance::{power_of_two, Chance};
 use crate::conic::{inner_root, Vector, Words, LOW};
 use crate::edges;
 use crate::motion::{self, beside, either_way, last, orbit_of, with, Frame, PLAIN, SPAN};
-use crate::spoilt::{self, REFUSED_LATER};
+use crate::spoilt::{self, ALTERED};
 use crate::theta::{polar, OPEN, WIDEST};
 use crate::universal::functions;
 
@@ -47,8 +47,8 @@ fn not_finite(chance: &mut Chance) -> Vec<Words> {
     let too_wide: fn(Words) -> Words = |words| with(words, SPAN, 7f64.to_bits());
     let mut list = Vec::new();
     for angle in [allowed, too_wide] {
-        for refused in REFUSED_LATER {
-            let words = angle(refused(ordinary(chance)));
+        for altered in ALTERED {
+            let words = angle(altered(ordinary(chance)));
             list.extend(spoilt::alone_and_in_pairs(words, chance));
         }
     }

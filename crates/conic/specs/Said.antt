@@ -24,6 +24,7 @@ problemNumbers p = numbersGiven (p .mu) (p .r) (p .v) (p .dt)
 abbrev pub inputNumber : (place : ℕ) → ℕ
 inputNumber place = 101 + place
 
+-- how many these are
 abbrev pub inputs : ℕ
 inputs = 8
 

@@ -46,12 +46,13 @@ impl Scaled {
     }
 }
 
-// The number of the first of the eight numbers that a prediction is given; the others' follow.
+// The refusal of the first of the numbers that a prediction is given, whose others follow, and how many
+// these are.
 const FIRST_INPUT: u32 = 101;
 
 const INPUTS: u32 = 8;
 
-// The number for any of the eight on cards from before each had its own.
+// What cards from before have for any of these.
 const ANY_INPUT: u32 = 1;
 
 // Why a prediction is refused. A number that is not finite has its place among those given, from 0 on.

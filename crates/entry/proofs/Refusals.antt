@@ -1,7 +1,7 @@
 -- The numbers with which an entry refuses: those of the eight numbers given, at the first that is not finite; 2, 5, 6, 7 and 14; for Kepler 3 and 8,
--- and for Theta 4 (`entry-refuses`, `angle-entry-refuses`: whatever these have, each refusal's number has). So each is above 1 and at most 108 (`Numbered`); one of 101 to 108 names
--- the first that is not finite (`NamesFirst`), and that one is refused with its number (`first-refuses`, `first-refuses-angle`). Each number stands
--- beside its test, so the laws of rows follow the definitions line by line.
+-- and for Theta 4 (`entry-refuses`, `angle-entry-refuses`: whatever these have, each refusal's number has). So each is above 1 and at most 108
+-- (`Numbered`); one of 101 to 108 names the first that is not finite (`NamesFirst`), and that one is refused with its number (`first-refuses`,
+-- `first-refuses-angle`). Each number stands beside its test, so the laws of rows follow the definitions line by line.
 use mathlib.Core.Path.{_≡_, refl, sym, _∙_}
 use mathlib.Core.Bool.{true, false, true≢false}
 use mathlib.Core.List.{List}

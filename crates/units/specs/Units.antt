@@ -1,5 +1,6 @@
--- The numbers given, the radius of a position and the unit of time: RULES, From the state to the scaled problem 1 to 3, which a transfer
--- shares. What is not finite, not usable, or a root that is refused, has no number here: each caller gives it its own. Definitions only.
+-- The numbers given: RULES, Refusal numbers, 1 and 101 to 108. The radius of a position and the unit of time: RULES, From the state to the scaled
+-- problem 1 to 3. A transfer shares both. What is not finite, not usable, or a root that is refused, has no number here: each caller gives it its
+-- own. Definitions only.
 use Prim.Native.Nat.{ℕ, _+_}
 use mathlib.Core.Bool.{Bool, cond, _&&_}
 use mathlib.Core.List.{List, [], _∷_}

@@ -1,5 +1,6 @@
 // The numbers given, and from them the radius of a position and the unit of time, by which a state and
-// a transfer are scaled. docs/RULES.md, From the state to the scaled problem 1 to 3.
+// a transfer are scaled. docs/RULES.md, Refusal numbers, 1 and 101 to 108, and From the state to the
+// scaled problem 1 to 3.
 //
 // Every public function is proved and total: its contract is an equation with a definition of
 // `specs/`, for every input, NaN and infinities included. The crate assumes nothing.

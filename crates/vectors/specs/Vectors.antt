@@ -24,6 +24,6 @@ dot a b = a .x ⊗ b .x ⊕ a .y ⊗ b .y ⊕ a .z ⊗ b .z
 abbrev pub over : Vector → Float → Vector
 over a k = record { x = a .x ⊘ k; y = a .y ⊘ k; z = a .z ⊘ k }
 
--- a number, two vectors and a number, by their places from 0 on: mu, r, v, dt of a problem; mu, r1, r2, dt of a transfer
+-- a number, two vectors and a number, by their places from 0 on: mu, r, v and dt or the angle of a problem; mu, r1, r2 and dt of a transfer
 abbrev pub numbersGiven : (mu : Float) (a b : Vector) (last : Float) → List Float
 numbersGiven mu a b last = mu ∷ a .x ∷ a .y ∷ a .z ∷ b .x ∷ b .y ∷ b .z ∷ last ∷ []

@@ -28,7 +28,7 @@ use Rattle.compared.proofs.Theorems.{as-solved}
 use Rattle.compared.proofs.Answered as compared
 use Rattle.transfer_verdict.specs.TransferVerdict.{transferCard}
 use Rattle.transfer_verdict.proofs.Accepted as transfer
-use Rattle.verdict.specs.Verdict.{sameState, solvedCard, isRefusedWith, refusedCard, verdictOn}
+use Rattle.verdict.specs.Verdict.{sameState, solvedCard, isRefusedAs, refusedCard, verdictOn}
 use Rattle.verdict.proofs.StateWords.{stateWords, wordsOf}
 use Rattle.verdict.proofs.Tests.{residualOf, shared, starts-fair, solved-is, solved-passes, refused-tests}
 use Rattle.verdict.proofs.Rejected.{zero-accepts}
@@ -127,7 +127,7 @@ transfer-good-enough body g = ap asSolved (transfer.good-enough body g)
 
 -- ---- a refused card
 
-pub refused-means : (body : List ℕ) → numberIn (verdictOn kind.Refused body) ≡ 0 → (spareOf body ≡ 0) × (lastSpareOf body ≡ 0) × (isRefusedWith (keplerOf (problemOf body)) (refusalOf body) ≡ true)
+pub refused-means : (body : List ℕ) → numberIn (verdictOn kind.Refused body) ≡ 0 → (spareOf body ≡ 0) × (lastSpareOf body ≡ 0) × (isRefusedAs (keplerOf (problemOf body)) (refusalOf body) ≡ true)
 unfolding verdictOn
 refused-means body z = refused-tests body .0 (go (refusedCard body) refl)
   where

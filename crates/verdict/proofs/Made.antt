@@ -38,7 +38,7 @@ use Rattle.card.proofs.Numbers.{AllFit, word-in}
 use Rattle.card.proofs.Given.{given-problem, behind-given}
 use Rattle.ruling.specs.Said.{numberIn}
 use Rattle.compared.specs.Said.{asSolved, asRefused}
-use Rattle.verdict.specs.Verdict.{isRefusedWith, verdictOn}
+use Rattle.verdict.specs.Verdict.{isRefusedAs, verdictOn}
 use Rattle.verdict.proofs.StateWords.{stateWords, wordsOf}
 use Rattle.verdict.proofs.Tests.{solved-passes, refused-tests}
 
@@ -104,7 +104,7 @@ module _ (given : List ℕ) (sized : length given ≡ problemSize) where
   refusal-read : (k : ℕ) → Numbered k → refusalOf (refusedBody given k) ≡ k
   refusal-read k small = behind-spare (bytesOf 4 k ++ spare) 4 0 ∙ valueAt-bytes 4 k spare (omega (arith, between-is 1 (conic.inputNumber conic.inputs) k small .1))
 
-  refused-made : (k : ℕ) → Numbered k → isRefusedWith (keplerOf (problemOf given)) k ≡ true → numberIn (verdictOn kind.Refused (refusedBody given k)) ≡ 0
+  refused-made : (k : ℕ) → Numbered k → isRefusedAs (keplerOf (problemOf given)) k ≡ true → numberIn (verdictOn kind.Refused (refusedBody given k)) ≡ 0
   unfolding verdictOn
   refused-made k small e =
       let last : lastSpareOf (refusedBody given k) ≡ 0 = behind-spare (bytesOf 4 k ++ spare) spareSize 4 ∙ rw length-bytes at (valueAt-last spareSize 0 (bytesOf 4 k) (omega arith)) in

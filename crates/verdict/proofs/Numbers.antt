@@ -25,7 +25,7 @@ use Rattle.card.specs.declared.Kind.the-variants as kind
 use Rattle.card.specs.Fields.{problemOf, spareOf, refusalOf, lastSpareOf}
 use Rattle.ruling.specs.Said.{rejected, numberIn}
 use Rattle.compared.specs.Said.{asRefused}
-use Rattle.verdict.specs.Verdict.{isRefusedWith, solvedCard, verdictOn}
+use Rattle.verdict.specs.Verdict.{isRefusedAs, solvedCard, verdictOn}
 use Rattle.verdict.proofs.Tests.{refused-tests}
 use Rattle.verdict.proofs.Accepted.{refused-means}
 
@@ -43,7 +43,7 @@ means-one place h =
 
 -- where 1 means Kepler's refusal, a number that is given is not finite
 module _ (list : List Float) where
-  first-of : (s : conic.Said) → RefusalHas Numbered Numbered s → RefusalHas (NamesFirst list) (NamesFirst list) s → isRefusedWith s 1 ≡ true → (place : ℕ) × FirstNotFinite list place
+  first-of : (s : conic.Said) → RefusalHas Numbered Numbered s → RefusalHas (NamesFirst list) (NamesFirst list) s → isRefusedAs s 1 ≡ true → (place : ℕ) × FirstNotFinite list place
   first-of (answer.solved x n state) small names h = absurd (true≢false (sym h))
   first-of (answer.refused k n) small names h = let first = names (one-means k small h) in (first .0, first .2)
   first-of (answer.refusedWithBracket k n lo hi) small names h = let first = names (one-means k small h) in (first .0, first .2)
@@ -64,7 +64,7 @@ own-meaning k number other = (there (eqb k number) refl (eqb number 1) refl, λ 
     there false e true f h = absurd (other (eqb-true number 1 f))
     there false e false f h = absurd (true≢false (sym h))
 
-own-number : (k : ℕ) → (k ≡ 1 → ⊥) → (s : conic.Said) → (isRefusedWith s k ≡ true) ↔ RefusesWith k s
+own-number : (k : ℕ) → (k ≡ 1 → ⊥) → (s : conic.Said) → (isRefusedAs s k ≡ true) ↔ RefusesWith k s
 own-number k other (answer.solved x n state) = (λ h. true≢false (sym h), λ e. absurd e)
 own-number k other (answer.refused why n) = own-meaning why k other
 own-number k other (answer.refusedWithBracket why n lo hi) = own-meaning why k other
@@ -72,7 +72,7 @@ own-number k other (answer.refusedWithBracket why n lo hi) = own-meaning why k o
 -- ---- the cards
 
 module _ (body : List ℕ) where
-  accepted : spareOf body ≡ 0 → lastSpareOf body ≡ 0 → isRefusedWith (keplerOf (problemOf body)) (refusalOf body) ≡ true → numberIn (verdictOn kind.Refused body) ≡ 0
+  accepted : spareOf body ≡ 0 → lastSpareOf body ≡ 0 → isRefusedAs (keplerOf (problemOf body)) (refusalOf body) ≡ true → numberIn (verdictOn kind.Refused body) ≡ 0
   unfolding verdictOn
   accepted s l given = ap (λ (c : Checked (Unit {0})). numberIn (asRefused c)) (refused-tests body .1 (s, l, given))
 
@@ -87,7 +87,7 @@ module _ (body : List ℕ) where
       there : numberIn (verdictOn kind.Refused body) ≡ 0 → (place : ℕ) × (place < inputs) × (keplerOf (problemOf body) ≡ answer.refused (inputNumber place) 0)
       there z =
           let p = problemOf body in
-          let given = subst (λ (k : ℕ). isRefusedWith (keplerOf p) k ≡ true) e (refused-means body z .2) in
+          let given = subst (λ (k : ℕ). isRefusedAs (keplerOf p) k ≡ true) e (refused-means body z .2) in
           let first = first-of (problemNumbers p) (keplerOf p) (refusal-numbered p) (names-first p) given in
           (first .0, first .1 .inside, first-named p (first .0) (first .1))
 

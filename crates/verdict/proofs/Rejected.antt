@@ -40,11 +40,11 @@ pub rejected-refusal : (body : List ℕ) (n : ℕ) → verdictOn kind.Refused bo
 unfolding verdictOn
 rejected-refusal body n e = between-is 0 100 n (refusal-has (refused-refuses body) (as-refused (refusedCard body) n e))
 
--- the eight numbers of a transfer are such too
+-- the eight refusals of a transfer before the first guess are such too
 eight : Eight (Between 0 100)
 eight = record { p1 = tt; p2 = tt; p3 = tt; p5 = tt; p6 = tt; p50 = tt; p51 = tt; p52 = tt }
 
-rejected-transfer : (body : List ℕ) (n : ℕ) → verdictOn kind.Transfer body ≡ rejected n → (0 < n) × (n < 100)
+pub rejected-transfer : (body : List ℕ) (n : ℕ) → verdictOn kind.Transfer body ≡ rejected n → (0 < n) × (n < 100)
 unfolding verdictOn
 rejected-transfer body n e = between-is 0 100 n (refusal-has (transfer-refuses eight tt tt tt tt body) (as-solved (transferCard body) (refuse n) e))
 

@@ -32,7 +32,7 @@ use Rattle.compared.specs.Said.{asSolved}
 use Rattle.compared.specs.Compared.{inSeconds}
 use Rattle.compared.proofs.Answered as compared
 use Rattle.compared.proofs.Answered.{answered-is, answered-passes}
-use Rattle.verdict.specs.Verdict.{sameState, atX, solvedCard, isRefusedWith, refusedCard, verdictOn}
+use Rattle.verdict.specs.Verdict.{sameState, atX, solvedCard, isRefusedAs, refusedCard, verdictOn}
 use Rattle.verdict.proofs.StateWords.{stateWords, wordsOf, same-state}
 
 -- ---- a solved card
@@ -92,13 +92,13 @@ solved-passes body o start p =
 
 -- ---- a refused card
 
-pub refused-tests : (body : List ℕ) → (refusedCard body ≡ pass tt) ↔ ((spareOf body ≡ 0) × (lastSpareOf body ≡ 0) × (isRefusedWith (keplerOf (problemOf body)) (refusalOf body) ≡ true))
+pub refused-tests : (body : List ℕ) → (refusedCard body ≡ pass tt) ↔ ((spareOf body ≡ 0) × (lastSpareOf body ≡ 0) × (isRefusedAs (keplerOf (problemOf body)) (refusalOf body) ≡ true))
 unfolding refusedCard must
 refused-tests body = (there, λ e. rw (both (eqb (spareOf body) 0) (eqb (lastSpareOf body) 0) .1 (eq→eqb (e .0), eq→eqb (e .1)), e .2) refl)
   where
-    there : refusedCard body ≡ pass tt → (spareOf body ≡ 0) × (lastSpareOf body ≡ 0) × (isRefusedWith (keplerOf (problemOf body)) (refusalOf body) ≡ true)
+    there : refusedCard body ≡ pass tt → (spareOf body ≡ 0) × (lastSpareOf body ≡ 0) × (isRefusedAs (keplerOf (problemOf body)) (refusalOf body) ≡ true)
     there h =
-        let given = isRefusedWith (keplerOf (problemOf body)) (refusalOf body) in
+        let given = isRefusedAs (keplerOf (problemOf body)) (refusalOf body) in
         let first = test-passed (eqb (spareOf body) 0 && eqb (lastSpareOf body) 0) 23 (must given 24 (pass tt)) h in
         let zeros = both (eqb (spareOf body) 0) (eqb (lastSpareOf body) 0) .0 (first .0) in
         (eqb→eq (spareOf body) 0 (zeros .0), eqb→eq (lastSpareOf body) 0 (zeros .1), test-passed given 24 (pass tt) (first .1) .0)

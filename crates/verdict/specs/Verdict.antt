@@ -39,16 +39,16 @@ solvedCard body =
     atX body (e .0) (e .1)))
 
 -- whether Kepler refuses with what this number means
-abbrev pub isRefusedWith : conic.Said → ℕ → Bool
-isRefusedWith (answer.solved x n state) k = false
-isRefusedWith (answer.refused why n) k = conic.isMeantBy why k
-isRefusedWith (answer.refusedWithBracket why n lo hi) k = conic.isMeantBy why k
+abbrev pub isRefusedAs : conic.Said → ℕ → Bool
+isRefusedAs (answer.solved x n state) k = false
+isRefusedAs (answer.refused why n) k = conic.isMeantBy why k
+isRefusedAs (answer.refusedWithBracket why n lo hi) k = conic.isMeantBy why k
 
 -- Verdicts 9 to 11: 23 for either spare; 24 where Kepler does not refuse with what the card's number means; else accepted
 unfoldable pub refusedCard : List ℕ → Checked (Unit {0})
 refusedCard body =
     must (eqb (spareOf body) 0 && eqb (lastSpareOf body) 0) 23
-    (must (isRefusedWith (keplerOf (problemOf body)) (refusalOf body)) 24
+    (must (isRefusedAs (keplerOf (problemOf body)) (refusalOf body)) 24
     (pass tt))
 
 -- the verdict on a card, by its kind

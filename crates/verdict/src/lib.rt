@@ -25,7 +25,7 @@ ghost use Rattle.conic.specs.Unfolding.{arrivalAt};
 ghost use Rattle.ruling.specs.Said.{said};
 ghost use Rattle.compared.specs.Said.{asSolved, asRefused};
 ghost use Rattle.compared.specs.Compared.{foundBy};
-ghost use Rattle.verdict.specs.Verdict.{sameState, isRefusedWith, atX, solvedCard, refusedCard, verdictOn};
+ghost use Rattle.verdict.specs.Verdict.{sameState, isRefusedAs, atX, solvedCard, refusedCard, verdictOn};
 
 // The verdict on a card.
 pub fn judge(kind: Kind, body: &[u8]) -> Verdict
@@ -96,7 +96,7 @@ fn refused(body: &[u8]) -> Verdict
     if !((words::half(body, SPARE) == 0) & (words::half(body, LAST_SPARE) == 0)) {
         return Verdict::Rejected(Fault::WordNotAllowed.number());
     }
-    if !gives(
+    if !refuses_as(
         kepler::kepler(card::problem(body)),
         words::half(body, NUMBER),
     ) {
@@ -106,8 +106,8 @@ fn refused(body: &[u8]) -> Verdict
 }
 
 // Whether the answer is a refusal that this number means.
-fn gives(outcome: Outcome, number: u32) -> bool
-    ensures { λ r. ⌜ r ≡ isRefusedWith (conic.said outcome) number ⌝ }
+fn refuses_as(outcome: Outcome, number: u32) -> bool
+    ensures { λ r. ⌜ r ≡ isRefusedAs (conic.said outcome) number ⌝ }
 {
     match outcome {
         Outcome::Solved {
