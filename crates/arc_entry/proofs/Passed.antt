@@ -21,7 +21,7 @@ use Rattle.units.proofs.Positive.{unit-plus}
 use Rattle.arc.specs.declared.Transfer.{Transfer}
 use Rattle.arc.specs.declared.Scaled.{Scaled}
 use Rattle.arc.specs.Arc.{timeAt}
-use Rattle.arc_entry.specs.ArcEntry.{factorOf, scaledBy, scaledFrom, scaledOf, thirtySix, startingBracket, startOf, entryOf}
+use Rattle.arc_entry.specs.ArcEntry.{factorOf, scaledBy, scaledFrom, scaledOf, thirtySix, startingBracket, startOf, inputNumber, entryOf}
 
 -- ---- the scaled transfer
 
@@ -87,7 +87,7 @@ pub record Entered (q : Transfer) (o : Scaled) (b : Bracket) : Type 0 where
 pub entered : (q : Transfer) (o : Scaled) (b : Bracket) → entryOf q ≡ pass (o, b) → Entered q o b
 unfolding entryOf
 entered q o b h =
-    let given = givenTested (λ place. 1) (q .mu) (q .r1) (q .r2) (q .dt) in
+    let given = givenTested inputNumber (q .mu) (q .r1) (q .r2) (q .dt) in
     let above = lt nought (q .mu) in
     let row = onward (scaledOf q) startOf in
     let first = rows-passed given (λ finite. must above 2 (must (limitAllowed (q .limit)) 3 row)) h in

@@ -9,7 +9,7 @@ use Rattle.units.specs.Units.{radiusOf, unitOf}
 use Rattle.units.proofs.Places.{refuses-first}
 use Rattle.units.proofs.Refusals.{root-refuses, measure-refuses}
 use Rattle.rows.proofs.Laws.{Refuses, passes, must-refuses, onward-refuses}
-use Rattle.arc_entry.specs.ArcEntry.{factorOf, scaledBy, scaledFrom, scaledOf, startOf, entryOf}
+use Rattle.arc_entry.specs.ArcEntry.{factorOf, scaledBy, scaledFrom, scaledOf, startOf, inputNumber, entryOf}
 
 -- what each of the eight numbers has
 pub record Eight (P : ℕ → Type 0) : Type 0 where
@@ -47,4 +47,4 @@ module _ {P : ℕ → Type 0} (e : Eight P) where
 
   pub entry-refuses : (q : Transfer) → Refuses P (entryOf q)
   unfolding entryOf
-  entry-refuses q = onward-refuses _ _ (refuses-first (λ place. 1) _ (λ place f. e .p1)) (λ finite. must-refuses _ 2 _ (e .p2) (must-refuses _ 3 _ (e .p3) (onward-refuses _ _ (scaled-refuses q) start-refuses)))
+  entry-refuses q = onward-refuses _ _ (refuses-first inputNumber _ (λ place f. e .p1)) (λ finite. must-refuses _ 2 _ (e .p2) (must-refuses _ 3 _ (e .p3) (onward-refuses _ _ (scaled-refuses q) start-refuses)))

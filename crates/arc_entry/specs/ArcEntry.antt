@@ -1,5 +1,6 @@
 -- The tests of a transfer before the first guess and what they compute: STEPS, Required velocity 1 to 7 and 14, with the refusals in their
 -- order. Definitions only.
+use Prim.Native.Nat.{ℕ}
 use mathlib.Core.Bool.{not, _&&_}
 use lib.Ieee.{Float, lt, neg}
 use Rattle.exact.specs.Numbers.{_⊕_, _⊖_, _⊗_, _⊘_, numberOf, nought, one, isFinite, magnitude}
@@ -71,10 +72,14 @@ startOf o =
     (must (not (lt (timeAt o thirtySix) (o .t))) 52
     (pass (o, startingBracket o)))))
 
+-- 1, whatever the place of the number that is not finite
+abbrev pub inputNumber : (place : ℕ) → ℕ
+inputNumber place = 1
+
 -- 1, 2 and 3, then the tests above
 unfoldable pub entryOf : Transfer → Checked (Scaled × Bracket)
 entryOf q =
-    onward (givenTested (λ place. 1) (q .mu) (q .r1) (q .r2) (q .dt)) (λ finite.
+    onward (givenTested inputNumber (q .mu) (q .r1) (q .r2) (q .dt)) (λ finite.
     must (lt nought (q .mu)) 2
     (must (limitAllowed (q .limit)) 3
     (onward (scaledOf q) startOf)))

@@ -13,20 +13,20 @@ use Rattle.units.specs.Units.{givenTested}
 use Rattle.units.specs.Said.{givenSaid}
 use Rattle.units.proofs.Places.{again, given-again}
 use Rattle.arc_entry.specs.Said.{passedScaled}
-use Rattle.arc_entry.specs.ArcEntry.{scaledOf, startOf, entryOf}
+use Rattle.arc_entry.specs.ArcEntry.{scaledOf, startOf, inputNumber, entryOf}
 use Rattle.arc_entry.proofs.entry.Statement.{statement}
 use Rattle.arc_entry.proofs.entry.Tie as tie
 
 -- what `given` found, in the transfer's own number
-found : (c : tie.After-given) (answer : Finite) → c .given .result ≡ answer → givenTested (λ place. 1) (c .before .before .before .args .q .mu) (c .before .before .before .args .q .r1) (c .before .before .before .args .q .r2) (c .before .before .before .args .q .dt) ≡ again (λ place. 1) (givenSaid answer)
-found c answer is = given-again (λ place. 1) (numbersGiven (c .before .before .before .args .q .mu) (c .before .before .before .args .q .r1) (c .before .before .before .args .q .r2) (c .before .before .before .args .q .dt)) answer (c .given .ensures) is
+found : (c : tie.After-given) (answer : Finite) → c .given .result ≡ answer → givenTested inputNumber (c .before .before .before .args .q .mu) (c .before .before .before .args .q .r1) (c .before .before .before .args .q .r2) (c .before .before .before .args .q .dt) ≡ again inputNumber (givenSaid answer)
+found c answer is = given-again inputNumber (numbersGiven (c .before .before .before .args .q .mu) (c .before .before .before .args .q .r1) (c .before .before .before .args .q .r2) (c .before .before .before .args .q .dt)) answer (c .given .ensures) is
 
 returns : tie.Need-returns
 unfolding onward entryOf
 returns c = rw (found (c .before .before) (finite.NotAt (c .enum-told .given .0 .0)) (c .enum-told .given .1)) refl
 
 -- past the first test every number is finite
-good : (c : tie.After-enum-told2) → givenTested (λ place. 1) (c .before .before .before .before .before .args .q .mu) (c .before .before .before .before .before .args .q .r1) (c .before .before .before .before .before .args .q .r2) (c .before .before .before .before .before .args .q .dt) ≡ pass tt
+good : (c : tie.After-enum-told2) → givenTested inputNumber (c .before .before .before .before .before .args .q .mu) (c .before .before .before .before .before .args .q .r1) (c .before .before .before .before .before .args .q .r2) (c .before .before .before .before .before .args .q .dt) ≡ pass tt
 good c = found (c .before .before) finite.All (c .enum-told2 .given .1)
 
 returns-2 : tie.Need-returns-2
