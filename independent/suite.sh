@@ -55,8 +55,8 @@ transfer unit subnormal: 150, transfer unit below 1e-290: 150, transfer unit 1e-
 transfer unit 1e-150 to 1e-50: 120, transfer unit 1e-50 to 1e50: 1000, transfer unit 1e50 to 1e150: 100, \
 transfer unit 1e150 to 1e290: 25, transfer unit above 1e290: 500, units apart: 350, units apart among every kind: 60, \
 residual rounded to 0: 60, residual subnormal: 500, residual above 1e297: 400, transfer residual rounded to 0: 80, \
-transfer residual subnormal: 200, transfer residual above 1e297: 100, far in seconds: 10000, near in seconds: 1215, \
-transfer far in seconds: 2000, transfer near in seconds: 148, told from no unit: 1800, \
+transfer residual subnormal: 200, transfer residual above 1e297: 100, far in seconds: 10000, near in seconds: 1240, \
+transfer far in seconds: 2000, transfer near in seconds: 170, told from no unit: 1800, \
 told from no unit of transfers: 350, told from the first unit: 1100, told from the last unit: 1100, \
 told from the unit before: 1100, told from all units: 1500, told from two products: 1500, \
 told from times in seconds: 1200, told from sums of times: 1500, told from another order: 250, \

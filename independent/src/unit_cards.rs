@@ -42,7 +42,7 @@ pub const SORTS: [SortRow; 9] = [
     ("last-times", 150, 8, |chance| {
         LAST_TIMES.among_others(chance)
     }),
-    ("too-far", 60, 8, |chance| TOO_FAR.any(chance)),
+    ("too-far", 120, 8, |chance| TOO_FAR.any(chance)),
 ];
 
 /// The gate's decks, the same list in every run: of each sort, and some with the most cards.
