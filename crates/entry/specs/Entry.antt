@@ -56,15 +56,17 @@ scaledOf mu r v dt =
 abbrev pub sixtyFourth : Float
 sixtyFourth = numberOf 0x3f90_0000_0000_0000
 
-abbrev pub sixtyFour : Float
-sixtyFour = numberOf 0x4050_0000_0000_0000
+-- 63.5
+abbrev pub farthest : Float
+farthest = numberOf 0x404f_c000_0000_0000
 
-abbrev pub eight : Float
-eight = numberOf 0x4020_0000_0000_0000
+-- 7.9375
+abbrev pub reach : Float
+reach = numberOf 0x401f_c000_0000_0000
 
--- scaling 10: X is 64 where |alpha| ≤ 1/64, else 8/root(|alpha|). Refusal 14 where that root is refused
+-- scaling 10: X is 63.5 where |alpha| ≤ 1/64, else 7.9375/root(|alpha|). Refusal 14 where that root is refused
 unfoldable pub farEndOf : (alpha : Float) → Checked Float
-farEndOf alpha = cond (le (magnitude alpha) sixtyFourth) (pass sixtyFour) (onward (rooted 14 (magnitude alpha)) (λ k. pass (eight ⊘ k)))
+farEndOf alpha = cond (le (magnitude alpha) sixtyFourth) (pass farthest) (onward (rooted 14 (magnitude alpha)) (λ k. pass (reach ⊘ k)))
 
 -- scaling 11: from 0 to X forwards, from -X to 0 backwards. The search: beside the end 0 stands the time 0, beside the far end its T
 abbrev pub zeroEnd : Point

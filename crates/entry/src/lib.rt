@@ -23,6 +23,11 @@ const STRAIGHT: f64 = 9.5367431640625e-07;
 
 const SIXTY_FOURTH: f64 = 0.015625;
 
+// X where |alpha| is at most that; and what its root is a divisor of elsewhere.
+const FARTHEST: f64 = 63.5;
+
+const REACH: f64 = 7.9375;
+
 const LARGEST_ANGLE: f64 = 6.25;
 
 // A scaled problem, or why there is none.
@@ -161,12 +166,12 @@ fn far_end(alpha: f64) -> Number
 {
     let size = exact::absolute(alpha);
     if size <= SIXTY_FOURTH {
-        return Number::Passed(64.0);
+        return Number::Passed(FARTHEST);
     }
     let Answer::Root(k) = root::root(size) else {
         return Number::Refused(Reason::RootRefused);
     };
-    Number::Passed(8.0 / k)
+    Number::Passed(REACH / k)
 }
 
 // The starting bracket, where the far end is not short of the wanted time.

@@ -1,2 +1,3 @@
 pub mod Series
 pub mod Functions
+pub mod Said

@@ -1,12 +1,13 @@
--- C2 and C3: RULES, The universal functions 1 to 3. Definitions only.
+-- C2 and C3: RULES, The universal functions 1 to 4. Definitions only.
 use Prim.Native.Nat.{ℕ, zero, suc, _+_, _*_, _≤_}
 use mathlib.Core.Path.{_≡_}
-use mathlib.Core.Bool.{false, cond}
+use mathlib.Core.Bool.{Bool, false, cond}
 use mathlib.Core.List.{List, [], _∷_}
 use lib.ListN.{getD}
 use lib.Dec.{T}
-use lib.Ieee.{Float, nan, binary64, round, neg, lt}
-use Rattle.exact.specs.Numbers.{_⊕_, _⊗_, nought, Number, isMinus, steps, distance, inSteps}
+use lib.Ieee.{Float, nan, binary64, round, neg, lt, le}
+use Rattle.exact.specs.Numbers.{_⊕_, _⊗_, numberOf, nought, magnitude, Number, isMinus, steps, distance, inSteps}
+use Rattle.rows.specs.Rows.{Checked, pass, must}
 
 -- n!
 abbrev pub factorial : ℕ → ℕ
@@ -34,6 +35,23 @@ workedFrom table z (suc k) sum = workedFrom table z k (sum ⊗ neg z ⊕ getD ta
 -- 2: from k = 11 down, with the last coefficient as the start
 unfoldable pub worked : List Float → Float → Float
 worked table z = workedFrom table z 11 (getD table 11 nan)
+
+abbrev pub four : Float
+four = numberOf 0x4010_0000_0000_0000
+
+-- 4: the range, |z| ≤ 4; NaN is not in it
+abbrev pub inRange : Float → Bool
+inRange z = le (magnitude z) four
+
+-- 4: the refusal of what is not in it
+abbrev pub outOfRange : ℕ
+outOfRange = 60
+
+-- 1 to 4: C2(z), with first = 2, and C3(z), with first = 3
+unfoldable pub seriesOf : (first : ℕ) (z : Float) → Checked Float
+seriesOf first z =
+    must (inRange z) outOfRange
+    (pass (worked (coefficients first) z))
 
 -- ---- 3, each coefficient is nearest 1/n!: over whole numbers, among all binary64 numbers
 

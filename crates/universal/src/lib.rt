@@ -3,8 +3,10 @@
 //
 // Every public function is proved and total: its contract is an equation with a definition of
 // `specs/`, for every input, NaN and infinities included. The crate assumes nothing.
+use crate::series::Sum;
 ghost use mathlib.Core.Path.{_≡_};
-ghost use Rattle.universal.specs.Functions.{quartered, doubledOnce, functionsAt, timeOf, ratioOf};
+ghost use Rattle.universal.specs.Functions.{argumentAt, quartered, doubledOnce, functionsAt, timeOf, ratioOf};
+ghost use Rattle.universal.specs.Said.{valued};
 
 pub mod series;
 
@@ -15,21 +17,41 @@ pub struct Functions {
     pub u3: f64,
 }
 
-// U0..U3 at x: worked at x/4 and doubled twice.
-pub fn at(x: f64, alpha: f64) -> Functions
-    ensures { λ r. ⌜ r ≡ functionsAt x alpha ⌝ }
-{
-    doubled(alpha, doubled(alpha, quarter(x, alpha)))
+// The functions; or refused, since the series are.
+pub enum Values {
+    Worked(Functions),
+    Refused,
 }
 
-fn quarter(x: f64, alpha: f64) -> Functions
-    ensures { λ r. ⌜ r ≡ quartered x alpha ⌝ }
+// U0..U3 at x: worked at x/4 and doubled twice.
+pub fn at(x: f64, alpha: f64) -> Values
+    ensures { λ r. ⌜ valued r ≡ functionsAt x alpha ⌝ }
+{
+    let z = argument(x, alpha);
+    let Sum::Worked(c2) = series::c2(z) else {
+        return Values::Refused;
+    };
+    let Sum::Worked(c3) = series::c3(z) else {
+        return Values::Refused;
+    };
+    Values::Worked(doubled(alpha, doubled(alpha, quarter(x, alpha, c2, c3))))
+}
+
+// z: where the series are worked.
+fn argument(x: f64, alpha: f64) -> f64
+    ensures { λ r. ⌜ r ≡ argumentAt x alpha ⌝ }
+{
+    let y = x / 4.0;
+    alpha * (y * y)
+}
+
+fn quarter(x: f64, alpha: f64, c2: f64, c3: f64) -> Functions
+    ensures { λ r. ⌜ r ≡ quartered x alpha c2 c3 ⌝ }
 {
     let y = x / 4.0;
     let h = y * y;
-    let z = alpha * h;
-    let u2 = h * series::c2(z);
-    let u3 = (y * h) * series::c3(z);
+    let u2 = h * c2;
+    let u3 = (y * h) * c3;
     Functions {
         u0: 1.0 - alpha * u2,
         u1: y - alpha * u3,

@@ -1,6 +1,13 @@
-// C2 and C3: RULES, The universal functions 1 to 3. One loop works both, from k = 11 down.
+// C2 and C3: RULES, The universal functions 1 to 4. One loop works both, from k = 11 down.
 ghost use mathlib.Core.Path.{_≡_};
-ghost use Rattle.universal.specs.Series.{coefficients, worked};
+ghost use Rattle.universal.specs.Series.{worked, inRange, outOfRange, seriesOf};
+ghost use Rattle.universal.specs.Said.{summed};
+
+// The largest |z| for which twelve terms are good.
+const RANGE: f64 = 4.0;
+
+// The number of the refusal beyond it.
+const OUT_OF_RANGE: u32 = 60;
 
 // The binary64 numbers nearest 1/2!, 1/4!, .. 1/24!.
 const EVEN: [f64; 12] = [
@@ -34,16 +41,42 @@ const ODD: [f64; 12] = [
     6.446950284384474e-26,
 ];
 
-pub fn c2(z: f64) -> f64
-    ensures { λ r. ⌜ r ≡ worked (coefficients 2) z ⌝ }
-{
-    horner(EVEN, z)
+// A series worked at z; or refused, since z is not in its range.
+pub enum Sum {
+    Worked(f64),
+    Refused,
 }
 
-pub fn c3(z: f64) -> f64
-    ensures { λ r. ⌜ r ≡ worked (coefficients 3) z ⌝ }
+// The refusal's number.
+pub fn refusal() -> u32
+    ensures { λ r. ⌜ r ≡ outOfRange ⌝ }
 {
-    horner(ODD, z)
+    OUT_OF_RANGE
+}
+
+pub fn c2(z: f64) -> Sum
+    ensures { λ r. ⌜ summed r ≡ seriesOf 2 z ⌝ }
+{
+    if !in_range(z) {
+        return Sum::Refused;
+    }
+    Sum::Worked(horner(EVEN, z))
+}
+
+pub fn c3(z: f64) -> Sum
+    ensures { λ r. ⌜ summed r ≡ seriesOf 3 z ⌝ }
+{
+    if !in_range(z) {
+        return Sum::Refused;
+    }
+    Sum::Worked(horner(ODD, z))
+}
+
+// |z| ≤ 4, which is false of NaN.
+fn in_range(z: f64) -> bool
+    ensures { λ r. ⌜ r ≡ inRange z ⌝ }
+{
+    exact::absolute(z) <= RANGE
 }
 
 // The last coefficient, then again and again times -z and the next one added.
