@@ -4,9 +4,10 @@ use crate::answer::Answer;
 use crate::bytes::{u32_at, u64_at};
 use crate::conic::Words;
 use crate::kepler::{self, Input, PROBLEM};
+use crate::motion::orbit_of;
 use crate::times::Times;
 use crate::transfer;
-use crate::universal::functions;
+use crate::universal::unrefused;
 
 pub type State = [u64; 6];
 pub type Velocity = [u64; 3];
@@ -124,12 +125,12 @@ impl Card {
     /// The problem as solved at x, whether or not that is right: with the state that unfolds there,
     /// or, where the problem has no orbit, with its own r and v.
     pub fn at(problem: Input, x: f64) -> Card {
-        let state = match kepler::start(&problem) {
-            Ok(kepler::Started { orbit, .. }) => {
-                let u = functions(x, orbit.alpha);
+        let state = match orbit_of(&problem.words) {
+            Some(orbit) => {
+                let u = unrefused(x, orbit.alpha);
                 orbit.state(u.u1, u.u2, orbit.radius(&u)).map(word)
             }
-            Err(_) => own_state(&problem.words),
+            None => own_state(&problem.words),
         };
         Card::solved(problem, word(x), state)
     }

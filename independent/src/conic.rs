@@ -97,14 +97,14 @@ impl Orbit {
         u.u0 + self.s * u.u1 + u.u2
     }
 
-    /// T at x.
+    /// T at x. NaN, which is not finite, where the functions are refused.
     pub fn time_at(&self, x: f64) -> f64 {
-        self.time(&functions(x, self.alpha))
+        functions(x, self.alpha).map_or(f64::NAN, |u| self.time(&u))
     }
 
     /// What x unfolds to.
     pub fn arrive(&self, x: f64) -> Result<[f64; 6], u32> {
-        let u = functions(x, self.alpha);
+        let u = functions(x, self.alpha)?;
         self.unfold(u.u1, u.u2, self.radius(&u))
     }
 

@@ -129,7 +129,7 @@ fn transferred(input: &transfer::Input, z: u64, sent: Velocity) -> Result<Times,
 }
 
 /// The times at the x, or z, of a card, after 20, 6 and 21.
-fn near(search: &Search, x: f64, times: Times) -> Result<Times, u32> {
+pub fn near(search: &Search, x: f64, times: Times) -> Result<Times, u32> {
     refuse(20, !x.is_finite() || !search.contains(x))?;
     refuse(6, !times.reached.is_finite())?;
     refuse(21, times.gap() > NEAR)?;

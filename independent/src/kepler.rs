@@ -9,6 +9,9 @@ use crate::times::Times;
 /// The bytes of a problem: the words, then the limit.
 pub const PROBLEM: usize = 68;
 
+/// Up to this |alpha| X does not depend on it.
+pub const FLAT: f64 = 1.0 / 64.0;
+
 #[derive(Clone, Copy)]
 pub struct Input {
     pub words: Words,
@@ -56,37 +59,41 @@ pub fn answer(input: &Input) -> Answer {
 
 /// The tests before the first guess, in their order, and the starting bracket.
 pub fn start(input: &Input) -> Result<Started, u32> {
+    let (orbit, t) = posed(input)?;
+    let search = bracket(t, far_end(&orbit)?, |x| orbit.time_at(x))?;
+    Ok(Started { orbit, search })
+}
+
+/// The tests before that of the far end, in their order: the orbit and t.
+pub fn posed(input: &Input) -> Result<(Orbit, f64), u32> {
     let problem = Problem::read(&input.words)?;
     refuse(3, !(1..=100).contains(&input.limit))?;
     let orbit = problem.orbit()?;
     let t = problem.span / orbit.f4;
     refuse(6, !t.is_finite())?;
     orbit.not_straight()?;
-    let far = far_end(&orbit)?;
-    let zero = End { x: 0.0, time: 0.0 };
-    let [lo, hi] = if t >= 0.0 {
-        [zero, end(&orbit, far)]
-    } else {
-        [end(&orbit, -far), zero]
-    };
-    refuse(6, !lo.time.is_finite() || !hi.time.is_finite())?;
-    refuse(8, t >= 0.0 && hi.time < t || t < 0.0 && lo.time > t)?;
-    let search = Search { t, lo, hi };
-    Ok(Started { orbit, search })
+    Ok((orbit, t))
 }
 
 /// X. The far end of the starting bracket is X or -X.
 pub fn far_end(orbit: &Orbit) -> Result<f64, u32> {
-    if orbit.alpha.abs() <= 1.0 / 64.0 {
-        Ok(64.0)
+    if orbit.alpha.abs() <= FLAT {
+        Ok(63.5)
     } else {
-        Ok(8.0 / inner_root(orbit.alpha.abs())?)
+        Ok(7.9375 / inner_root(orbit.alpha.abs())?)
     }
 }
 
-fn end(orbit: &Orbit, x: f64) -> End {
-    End {
-        x,
-        time: orbit.time_at(x),
-    }
+/// The starting bracket with this X, after 6 and 8 of its far end.
+pub fn bracket(t: f64, far: f64, time: impl Fn(f64) -> f64) -> Result<Search, u32> {
+    let zero = End { x: 0.0, time: 0.0 };
+    let end = |x: f64| End { x, time: time(x) };
+    let [lo, hi] = if t >= 0.0 {
+        [zero, end(far)]
+    } else {
+        [end(-far), zero]
+    };
+    refuse(6, !lo.time.is_finite() || !hi.time.is_finite())?;
+    refuse(8, t >= 0.0 && hi.time < t || t < 0.0 && lo.time > t)?;
+    Ok(Search { t, lo, hi })
 }

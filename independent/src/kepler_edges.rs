@@ -8,7 +8,7 @@ use crate::kepler::{answer, far_end, Input};
 use crate::kepler_inputs::{aimed, unhurried};
 use crate::motion::{self, beside, either_way, last, orbit_of, with, Frame, SPAN};
 use crate::search::NEAR;
-use crate::universal::functions;
+use crate::universal::unrefused;
 
 /// The problems about a line, for some motion. None where it does not come to the line.
 type About = fn(&mut Chance) -> Option<Vec<Input>>;
@@ -58,11 +58,11 @@ impl Exact {
     }
 
     pub fn time(&self, x: f64) -> f64 {
-        self.orbit.time_at(x)
+        self.orbit.time(&unrefused(x, self.orbit.alpha))
     }
 
     pub fn radius(&self, x: f64) -> f64 {
-        self.orbit.radius(&functions(x, self.orbit.alpha))
+        self.orbit.radius(&unrefused(x, self.orbit.alpha))
     }
 
     pub fn at(&self, t: f64) -> Words {

@@ -6,7 +6,7 @@ use crate::kepler::{far_end, Input};
 use crate::kepler_edges;
 use crate::motion::{self, orbit_of, with, Frame, PLAIN, SPAN};
 use crate::spoilt::{self, ALTERED};
-use crate::universal::{functions, Functions};
+use crate::universal::{unrefused, Functions};
 
 /// The limits at the edges of what is allowed, some between, and some of which a part of the bytes
 /// would be allowed.
@@ -82,7 +82,7 @@ pub fn trials() -> Vec<Input> {
         with(PLAIN.words([0.0, 1.0, 0.0], 0.0), place, number.to_bits())
     };
     vec![
-        // v (1,1,0): alpha 0, X 64. At x = 4: U1 4, U2 8, R 13, position (5,12,0).
+        // v (1,1,0): alpha 0, X 63.5. At x = 4: U1 4, U2 8, R 13, position (5,12,0).
         plain([1.0, 1.0, 0.0], 4.0 + 8.0 + 64.0 / 6.0, 20),
         // v (0,1,0), dt 0: solved, x 0, count 1, the state that was given.
         plain([0.0, 1.0, 0.0], 0.0, 20),
@@ -197,6 +197,6 @@ pub fn aimed(words: Words, part: f64) -> Words {
 
 fn at_part(words: &Words, part: f64) -> Option<(Orbit, Functions)> {
     let orbit = orbit_of(words)?;
-    let u = functions(part * far_end(&orbit).ok()?, orbit.alpha);
+    let u = unrefused(part * far_end(&orbit).ok()?, orbit.alpha);
     Some((orbit, u))
 }

@@ -2,10 +2,9 @@
 
 use crate::chance::{power_of_two, Chance};
 use crate::conic::{dot, Problem, Words};
-use crate::kepler::far_end;
 use crate::motion::{self, cross, orbit_of, with, Frame, SPAN};
 use crate::transfer::{Input, Positions, Transfer, FAR, LONG, SHORT};
-use crate::universal::functions;
+use crate::universal::unrefused;
 
 /// A transfer whose time is still to be chosen.
 pub struct Leg {
@@ -139,8 +138,8 @@ pub fn true_arc(frame: &Frame, chance: &mut Chance) -> (Words, u32) {
     let (Some(orbit), part) = (orbit_of(&words), chance.between(0.01, 0.78)) else {
         return (words, SHORT);
     };
-    // A turn is the part 2 pi / 8 of the way to the far end.
-    let u = functions(part * far_end(&orbit).unwrap_or(0.0), orbit.alpha);
+    // A turn is the part 2 pi / 8 of this way.
+    let u = unrefused(part * (8.0 / orbit.alpha.sqrt()), orbit.alpha);
     let [x, y, z, ..] = orbit.state(u.u1, u.u2, orbit.radius(&u));
     let (plane, swept) = (cross(orbit.r, orbit.v), cross(orbit.r, [x, y, z]));
     let way = if dot(plane, swept) < 0.0 { LONG } else { SHORT };

@@ -13,7 +13,7 @@ use crate::kepler_inputs::{self, aimed, unhurried};
 use crate::motion::{self, backwards, beside, last, orbit_of, with, Frame, SPAN};
 use crate::search::NEAR;
 use crate::spoilt::{payload, NOT_FINITE};
-use crate::universal::functions;
+use crate::universal::unrefused;
 
 /// Cards of one sort, made by chance.
 pub type Sort = fn(&mut Chance) -> Vec<Card>;
@@ -117,7 +117,7 @@ impl Base {
     fn newton(&self) -> f64 {
         let Started { orbit, search } = &self.started;
         let step = |x: f64| {
-            let u = functions(x, orbit.alpha);
+            let u = unrefused(x, orbit.alpha);
             x - (orbit.time(&u) - search.t) / orbit.radius(&u)
         };
         let middle = self.side * self.far() / 2.0;

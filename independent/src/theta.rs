@@ -24,8 +24,8 @@ fn turned(words: &Words) -> Result<(f64, [f64; 6]), u32> {
     let orbit = problem.orbit()?;
     orbit.not_straight()?;
     let (s, p) = (orbit.s, orbit.p);
+    let half = functions(a / 2.0, 1.0)?;
     let k = inner_root(p)?;
-    let half = functions(a / 2.0, 1.0);
     let den = polar(&orbit, k, &half);
     refuse(12, den < OPEN || den.is_nan())?;
     let (sh, ch) = (half.u1, half.u0);

@@ -6,7 +6,7 @@ use crate::edges;
 use crate::motion::{self, beside, either_way, last, orbit_of, with, Frame, PLAIN, SPAN};
 use crate::spoilt::{self, ALTERED};
 use crate::theta::{polar, OPEN, WIDEST};
-use crate::universal::functions;
+use crate::universal::unrefused;
 
 /// The gate's inputs, the same list in every run.
 pub fn fixed() -> Vec<Words> {
@@ -134,7 +134,7 @@ fn about_line(w: Vector, chance: &mut Chance, asked: fn(f64, f64) -> bool) -> Ve
     let holds = |a: f64| {
         orbit_of(&words).is_some_and(|orbit| {
             let k = inner_root(orbit.p).unwrap_or(1.0);
-            let den = polar(&orbit, k, &functions(a / 2.0, 1.0));
+            let den = polar(&orbit, k, &unrefused(a / 2.0, 1.0));
             asked(den, orbit.p / den)
         })
     };

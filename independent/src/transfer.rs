@@ -58,7 +58,7 @@ pub struct Transfer {
     pub a: f64,
 }
 
-/// What a z comes to before its time. A root that is refused is NaN.
+/// What a z comes to before its time. A root that is refused is NaN, and so are functions.
 struct Reach {
     s: f64,
     y: f64,
@@ -174,8 +174,7 @@ impl Transfer {
     }
 
     fn reach(&self, z: f64) -> Reach {
-        let functions = functions(1.0, z);
-        let (c, s) = (functions.u2, functions.u3);
+        let (c, s) = functions(1.0, z).map_or((f64::NAN, f64::NAN), |u| (u.u2, u.u3));
         let k = root_or_nan(c);
         let y = 1.0 + self.places.rho - (self.a * (1.0 - z * s)) / k;
         let g = root_or_nan(y);

@@ -3,7 +3,7 @@ use lib.Ieee.{Float, nan}
 use Rattle.exact.specs.Numbers.{_⊕_, _⊖_, _⊗_, _⊘_, one}
 use Rattle.root.specs.Said as root
 use Rattle.root.specs.Root.{rootOf}
-use Rattle.universal.specs.Functions.{functionsAt}
+use Rattle.universal.specs.Functions.{functionsAt, orNans}
 use Rattle.rows.specs.Rows.{Checked, pass, must}
 use Rattle.vectors.specs.declared.Vector.{Vector}
 use Rattle.vectors.specs.Vectors.{allFinite, over}
@@ -18,11 +18,12 @@ orNan (root.refused k) = nan
 unfoldable pub rootOrNan : Float → Float
 rootOrNan x = orNan (rootOf x)
 
--- 8 to 11: C = U2 and S = U3 at x = 1 with alpha = z; k = root(C); y = 1 + rho - (A*(1 - z*S))/k; g = root(y)
+-- 8 to 11: C = U2 and S = U3 at x = 1 with alpha = z, NaNs where these are refused; k = root(C); y = 1 + rho - (A*(1 - z*S))/k; g = root(y)
 unfoldable pub shapeAt : (rho a z : Float) → Shape
 shapeAt rho a z =
-    let s = functionsAt one z .u3 in
-    let k = rootOrNan (functionsAt one z .u2) in
+    let u = orNans (functionsAt one z) in
+    let s = u .u3 in
+    let k = rootOrNan (u .u2) in
     let y = one ⊕ rho ⊖ (a ⊗ (one ⊖ z ⊗ s)) ⊘ k in
     record { s = s; k = k; y = y; g = rootOrNan y }
 

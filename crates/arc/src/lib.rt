@@ -110,7 +110,7 @@ impl Scaled {
 fn shape_at(rho: f64, a: f64, z: f64) -> Shape
     ensures { λ r. ⌜ r ≡ shapeAt rho a z ⌝ }
 {
-    let u = universal::at(1.0, z);
+    let u = universal::at_or_nan(1.0, z);
     let s = u.u3;
     let k = root_or_nan(u.u2);
     let y = 1.0 + rho - (a * (1.0 - z * s)) / k;

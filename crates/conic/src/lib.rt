@@ -38,11 +38,11 @@ pub struct Scaled {
 }
 
 impl Scaled {
-    // T(x): the scaled time.
+    // T(x): the scaled time; NaN where the functions are refused.
     pub fn time_at(self, x: f64) -> f64
         ensures { λ r. ⌜ r ≡ timeAt self x ⌝ }
     {
-        universal::time(self.s, universal::at(x, self.alpha))
+        universal::time(self.s, universal::at_or_nan(x, self.alpha))
     }
 }
 

@@ -4,6 +4,7 @@ use crate::Outcome;
 use crate::Reason;
 use crate::Scaled;
 use crate::State;
+use universal::Values;
 ghost use mathlib.Core.Path.{_≡_};
 ghost use Rattle.conic.specs.Said.{said, arrived};
 ghost use Rattle.search.specs.Answers.{withFound};
@@ -32,12 +33,14 @@ pub fn arrive(o: Scaled, u1: f64, u2: f64, ratio: f64) -> Arrival
     Arrival::State(state)
 }
 
-// The state that x unfolds to, with the same tests.
+// The state that x unfolds to, with the same tests, where the functions are not refused.
 pub fn arrive_at(o: Scaled, x: f64) -> Arrival
     ensures { λ r. ⌜ arrived r ≡ arrivalAt o x ⌝ }
 {
-    let u = universal::at(x, o.alpha);
-    arrive(o, u.u1, u.u2, universal::ratio(o.s, u))
+    match universal::at(x, o.alpha) {
+        Values::Worked(u) => arrive(o, u.u1, u.u2, universal::ratio(o.s, u)),
+        Values::Refused => Arrival::Refused(Reason::NotFinite),
+    }
 }
 
 // A prediction's answer: the state with its x and count, or the refusal with the count.

@@ -8,6 +8,7 @@ use conic::Scaled;
 use conic::unfolding::Arrival;
 use entry::Scaling;
 use root::Answer;
+use universal::Values;
 use vectors::Vector;
 ghost use mathlib.Core.Path.{_≡_};
 ghost use Rattle.conic.specs.Said.{said, arrived};
@@ -30,7 +31,9 @@ pub fn theta(mu: f64, r: Vector, v: Vector, a: f64) -> Outcome
 fn turned(o: Scaled, a: f64) -> Arrival
     ensures { λ x. ⌜ arrived x ≡ turnedState o a ⌝ }
 {
-    let half = universal::at(a / 2.0, 1.0);
+    let Values::Worked(half) = universal::at(a / 2.0, 1.0) else {
+        return Arrival::Refused(Reason::NotFinite);
+    };
     match root::root(o.p) {
         Answer::Root(k) => reached(o, k, half.u1, half.u0),
         Answer::Refused(_) => Arrival::Refused(Reason::RootRefused),

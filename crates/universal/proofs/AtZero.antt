@@ -2,11 +2,12 @@
 -- by 0, which leaves a zero of its sign (`times-nought`). What is left are computations with closed numbers.
 use mathlib.Core.Path.{_≡_, refl}
 use mathlib.Core.Bool.{Bool, true, false}
-use lib.Ieee.{Float, binary64, round, mul, div, add, sub, neg, ofBits}
-use Rattle.exact.specs.Numbers.{_⊕_, _⊖_, _⊗_, _⊘_, nought, one, two, Number}
+use lib.Ieee.{Float, binary64, round, mul, div, add, sub, neg, lt, le, eq, ofBits}
+use Rattle.exact.specs.Numbers.{_⊕_, _⊖_, _⊗_, _⊘_, nought, one, two, magnitude, Number}
 use Rattle.exact.proofs.Zero.{zero, times-nought}
-use Rattle.universal.specs.Series.{coefficients, workedFrom, worked}
-use Rattle.universal.specs.Functions.{four, functionsAt, timeOf}
+use Rattle.rows.specs.Rows.{pass, must, onward}
+use Rattle.universal.specs.Series.{four, inRange, coefficients, workedFrom, worked, seriesOf}
+use Rattle.universal.specs.Functions.{functionsAt, timeOf, orNans}
 
 -- ---- the closed numbers, for a zero of either sign
 
@@ -17,6 +18,11 @@ quarter-of-nought = refl
 square-of-nought : nought ⊗ nought ≡ nought
 unfolding mul ofBits
 square-of-nought = refl
+
+zero-in-range : (s : Bool) → inRange (zero s) ≡ true
+unfolding zero magnitude le lt eq ofBits
+zero-in-range true = refl
+zero-in-range false = refl
 
 times-c2 : (s : Bool) → nought ⊗ worked (coefficients 2) (zero s) ≡ nought
 unfolding zero coefficients workedFrom worked mul add neg round ofBits
@@ -57,9 +63,9 @@ two-ones-nought = refl
 
 -- ---- the functions and the time
 
-functions-at-zero : (alpha : Float) → Number binary64 alpha → functionsAt nought alpha ≡ record { u0 = one; u1 = nought; u2 = nought; u3 = nought }
-unfolding functionsAt
-functions-at-zero alpha h = simp (quarter-of-nought, square-of-nought, times-nought alpha h, times-c2, times-c3, one-less-zero, nought-less-zero, nought-plus-nought, two-noughts, two-ones-nought)
+functions-at-zero : (alpha : Float) → Number binary64 alpha → functionsAt nought alpha ≡ pass (record { u0 = one; u1 = nought; u2 = nought; u3 = nought })
+unfolding must onward seriesOf functionsAt
+functions-at-zero alpha h = simp (quarter-of-nought, square-of-nought, times-nought alpha h, zero-in-range, times-c2, times-c3, one-less-zero, nought-less-zero, nought-plus-nought, two-noughts, two-ones-nought)
 
-pub time-at-zero : (s alpha : Float) → Number binary64 s → Number binary64 alpha → timeOf s (functionsAt nought alpha) ≡ nought
+pub time-at-zero : (s alpha : Float) → Number binary64 s → Number binary64 alpha → timeOf s (orNans (functionsAt nought alpha)) ≡ nought
 time-at-zero s alpha h k = simp (functions-at-zero alpha k, times-nought s h, nought-plus-zero, nought-plus-nought)

@@ -1,3 +1,4 @@
 pub mod Coefficients
 pub mod AtZero
+pub mod Theorems
 pub mod Fixed

@@ -1,7 +1,7 @@
 -- The universal functions, time and radius ratio: RULES, The universal functions. Definitions only.
-use lib.Ieee.{Float}
+use lib.Ieee.{Float, nan}
 use Rattle.exact.specs.Numbers.{_⊕_, _⊖_, _⊗_, _⊘_, one, two}
-use Rattle.rows.specs.Rows.{Checked, pass, onward}
+use Rattle.rows.specs.Rows.{Checked, pass, refuse, onward}
 use Rattle.universal.specs.declared.Functions.{Functions}
 use Rattle.universal.specs.Series.{four, coefficients, worked, seriesOf}
 
@@ -41,6 +41,11 @@ unfoldable pub workedAt : (x alpha : Float) → Functions
 workedAt x alpha =
     let z = argumentAt x alpha in
     doubledTwice alpha (quartered x alpha (worked (coefficients 2) z) (worked (coefficients 3) z))
+
+-- 9: functions that are refused stand in a time as NaNs, so that it is not finite
+abbrev pub orNans : Checked Functions → Functions
+orNans (pass u) = u
+orNans (refuse k) = record { u0 = nan; u1 = nan; u2 = nan; u3 = nan }
 
 -- 7: T(x) = U1 + s*U2 + U3
 abbrev pub timeOf : (s : Float) → Functions → Float

@@ -5,7 +5,7 @@
 // `specs/`, for every input, NaN and infinities included. The crate assumes nothing.
 use crate::series::Sum;
 ghost use mathlib.Core.Path.{_≡_};
-ghost use Rattle.universal.specs.Functions.{argumentAt, quartered, doubledOnce, functionsAt, timeOf, ratioOf};
+ghost use Rattle.universal.specs.Functions.{argumentAt, quartered, doubledOnce, functionsAt, orNans, timeOf, ratioOf};
 ghost use Rattle.universal.specs.Said.{valued};
 
 pub mod series;
@@ -35,6 +35,19 @@ pub fn at(x: f64, alpha: f64) -> Values
         return Values::Refused;
     };
     Values::Worked(doubled(alpha, doubled(alpha, quarter(x, alpha, c2, c3))))
+}
+
+// The same for a time, in which functions that are refused stand as NaNs.
+pub fn at_or_nan(x: f64, alpha: f64) -> Functions
+    ensures { λ r. ⌜ r ≡ orNans (functionsAt x alpha) ⌝ }
+{
+    match at(x, alpha) {
+        Values::Worked(u) => u,
+        Values::Refused => {
+            let u0 = 0.0 / 0.0;
+            Functions { u0, u1: u0, u2: u0, u3: u0 }
+        }
+    }
 }
 
 // z: where the series are worked.

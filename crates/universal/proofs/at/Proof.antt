@@ -1,13 +1,37 @@
--- `at` meets its contract: a quarter, doubled twice.
-use mathlib.Core.Path.{refl, _∙_}
+-- `at` meets its contract: one of the series is refused, or a quarter is doubled twice.
+use mathlib.Core.Path.{_≡_, refl, sym, ap, _∙_}
 use borrow.Author.Needs.{needs}
-use Rattle.universal.specs.Functions.{functionsAt}
+use Rattle.rows.specs.Rows.{pass, onward}
+use Rattle.universal.specs.Said.{summed}
+use Rattle.universal.specs.Series.{seriesOf}
+use Rattle.universal.specs.Functions.{argumentAt, functionsAt}
 use Rattle.universal.proofs.at.Statement.{statement}
 use Rattle.universal.proofs.at.Tie as tie
 
+-- what C2 came to
+first : (c : tie.After-c2) → seriesOf 2 (argumentAt (c .before .before .args .x) (c .before .before .args .alpha)) ≡ summed (c .c2 .result)
+first c = ap (seriesOf 2) (sym (c .before .argument .ensures)) ∙ sym (c .c2 .ensures)
+
+-- and C3
+second : (c : tie.After-c3) → seriesOf 3 (argumentAt (c .before .before .before .before .before .before .args .x) (c .before .before .before .before .before .before .args .alpha)) ≡ summed (c .c3 .result)
+second c = ap (seriesOf 3) (sym (c .before .before .before .before .before .argument .ensures)) ∙ sym (c .c3 .ensures)
+
 returns : tie.Need-returns
-unfolding functionsAt
-returns c = c .doubled2 .ensures ∙ rw (c .before .doubled .ensures, c .before .before .quarter .ensures) refl
+unfolding onward functionsAt
+returns c = rw (first (c .before .before), c .enum-told .given .1) refl
+
+returns-2 : tie.Need-returns-2
+unfolding onward functionsAt
+returns-2 c = let worked = c .before .before .before .before in rw (first (worked .before .before), worked .c22 .given .1, second (c .before .before), c .enum-told2 .given .1) refl
+
+returns-3 : tie.Need-returns-3
+unfolding onward functionsAt
+returns-3 c =
+    let worked = c .before .before .before .before in
+    let earlier = worked .before .before .before .before in
+    rw (first (earlier .before .before), earlier .c22 .given .1, second (worked .before .before), worked .c32 .given .1, c .doubled2 .ensures, c .before .doubled .ensures, c .before .before .quarter .ensures) refl
 
 pub at-spec : {M : Type 1} → statement M
-at-spec = tie.close (tie.spec (λ c κs. search needs) (λ c κs. search needs) (λ c κs. search needs) returns)
+at-spec =
+    tie.close
+    (tie.spec (λ c κs. search needs) (λ c κs. search needs) (λ c. search needs) (λ c. search needs) returns (λ c κs. search needs) (λ c. search needs) (λ c. search needs) returns-2 (λ c κs. search needs) (λ c κs. search needs) (λ c κs. search needs) returns-3)
