@@ -9,7 +9,7 @@ use Rattle.conic.specs.declared.State.{State}
 use Rattle.conic.specs.declared.Problem.{Problem}
 use Rattle.conic.specs.declared.Scaled.{Scaled}
 use Rattle.vectors.proofs.Fitting.{VectorFits, combined-fits}
-use Rattle.universal.specs.Functions.{functionsAt}
+use Rattle.universal.specs.Functions.{functionsAt, orNans}
 use Rattle.conic.specs.TimeAndRatio.{timeAt}
 use Rattle.conic.specs.Unfolding.{unfolded, stateAt}
 
@@ -26,7 +26,7 @@ pub record ProblemFits (p : Problem) : Type 0 where
 
 pub time-fits : (o : Scaled) (x : Float) → T (fits binary64 (timeAt o x))
 unfolding timeAt
-time-fits o x = let u = functionsAt x (o .alpha) in add-fits binary64 (u .u1 ⊕ o .s ⊗ u .u2) (u .u3)
+time-fits o x = let u = orNans (functionsAt x (o .alpha)) in add-fits binary64 (u .u1 ⊕ o .s ⊗ u .u2) (u .u3)
 
 pub state-fits : (o : Scaled) (x : Float) → StateFits (stateAt o x)
 unfolding unfolded

@@ -4,9 +4,8 @@ use lib.Ieee.{Float, le, neg}
 use Rattle.exact.specs.Numbers.{_⊕_, _⊖_, _⊗_, _⊘_, numberOf, one}
 use Rattle.conic.specs.declared.State.{State}
 use Rattle.conic.specs.declared.Scaled.{Scaled}
-use Rattle.rows.specs.Rows.{Checked, pass, refuse, must}
+use Rattle.rows.specs.Rows.{Checked, pass, must, renumbered, onward}
 use Rattle.vectors.specs.Vectors.{allFinite, multiple, combined}
-use Rattle.universal.specs.declared.Functions.{Functions}
 use Rattle.universal.specs.Functions.{functionsAt, workedAt, ratioOf}
 use Rattle.conic.specs.TimeAndRatio.{ratioAt}
 
@@ -35,11 +34,6 @@ arrivalOf o u1 u2 ratio =
 abbrev pub stateAt : Scaled → (x : Float) → State
 stateAt o x = let u = workedAt x (o .alpha) in unfolded o (u .u1) (u .u2) (ratioAt o x)
 
--- The universal functions 9: 6 where the functions are refused, and else these tests
-abbrev pub arrivalBy : Scaled → Checked Functions → Checked State
-arrivalBy o (pass u) = arrivalOf o (u .u1) (u .u2) (ratioOf (o .s) u)
-arrivalBy o (refuse k) = refuse 6
-
--- the same at x
+-- The universal functions 9: 6 where the functions are refused; then the same tests at x
 unfoldable pub arrivalAt : Scaled → (x : Float) → Checked State
-arrivalAt o x = arrivalBy o (functionsAt x (o .alpha))
+arrivalAt o x = onward (renumbered 6 (functionsAt x (o .alpha))) (λ u. arrivalOf o (u .u1) (u .u2) (ratioOf (o .s) u))

@@ -4,7 +4,7 @@ use mathlib.Core.Bool.{Bool, true, false, cond, true≢false, _&&_}
 use Prim.Native.Nat.{ℕ, _<_}
 use lib.Dec.{T, ltb, ltb→lt}
 use lib.Ieee.Fits.{and-l, and-r}
-use Rattle.rows.specs.Rows.{Checked, pass, refuse, must, onward}
+use Rattle.rows.specs.Rows.{Checked, pass, refuse, must, renumbered, onward}
 
 pub pass-once : {A : Type 0} {x y : A} → _≡_ {A = Checked A} (pass x) (pass y) → x ≡ y
 pass-once e = cc
@@ -20,6 +20,11 @@ pub rows-passed : {A B : Type 0} (m : Checked A) (rest : A → Checked B) {y : B
 unfolding onward
 rows-passed (pass x) rest e = (x, refl, e)
 rows-passed (refuse k) rest e = absurd (true≢false cc)
+
+-- under another number a row passes where it did
+pub renumbered-passed : {A : Type 0} (k : ℕ) (m : Checked A) {x : A} → renumbered k m ≡ pass x → m ≡ pass x
+renumbered-passed k (pass x) e = e
+renumbered-passed k (refuse j) e = absurd (true≢false cc)
 
 -- a row that goes on without a test refuses where the first one did
 pub row-refused : {A B : Type 0} (m : Checked A) (value : A → B) {k : ℕ} → onward m (λ x. pass (value x)) ≡ refuse k → m ≡ refuse k
@@ -49,6 +54,10 @@ module _ {A : Type 0} {P : ℕ → Type 0} where
   unfolding must
   must-refuses true k rest p r = r
   must-refuses false k rest p r = refuses p
+
+  pub renumbered-refuses : (k : ℕ) (m : Checked A) → P k → Refuses P (renumbered k m)
+  renumbered-refuses k (pass x) p = passes
+  renumbered-refuses k (refuse j) p = refuses p
 
   pub cond-refuses : (t : Bool) (m n : Checked A) → Refuses P m → Refuses P n → Refuses P (cond t m n)
   cond-refuses true m n p q = p

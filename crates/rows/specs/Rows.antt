@@ -17,6 +17,11 @@ abbrev pub refusalIn : {A : Type 0} → Checked A → ℕ
 refusalIn (pass x) = 0
 refusalIn (refuse k) = k
 
+-- what an earlier row came to, whatever its refusal, under the number k
+abbrev pub renumbered : {A : Type 0} → (k : ℕ) → Checked A → Checked A
+renumbered k (pass x) = pass x
+renumbered k (refuse j) = refuse k
+
 -- on with what an earlier row of tests came to
 unfoldable pub onward : {A B : Type 0} → Checked A → (A → Checked B) → Checked B
 onward (pass x) rest = rest x

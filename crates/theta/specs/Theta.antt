@@ -4,10 +4,9 @@ use Rattle.exact.specs.Numbers.{_⊕_, _⊖_, _⊗_, _⊘_, numberOf, one, two}
 use Rattle.conic.specs.declared.State.{State}
 use Rattle.vectors.specs.declared.Vector.{Vector}
 use Rattle.conic.specs.declared.Scaled.{Scaled}
-use Rattle.rows.specs.Rows.{Checked, pass, refuse, must, onward}
+use Rattle.rows.specs.Rows.{Checked, must, renumbered, onward}
 use Rattle.search.specs.Answers.{withFound}
 use Rattle.conic.specs.Said.{Said}
-use Rattle.universal.specs.declared.Functions.{Functions}
 use Rattle.universal.specs.Functions.{functionsAt}
 use Rattle.conic.specs.Unfolding.{arrivalOf}
 use Rattle.units.specs.Units.{rooted}
@@ -33,14 +32,12 @@ reachedState o k sh ch =
     must (le leastDen den) 12
     (arrivalOf o u1 u2 ratio)
 
--- Theta 1 and 2: sh = U1 and ch = U0; 6 where the functions are refused; k = root(p)
-abbrev pub turnedBy : Scaled → Checked Functions → Checked State
-turnedBy o (pass half) = onward (rooted 14 (o .p)) (λ k. reachedState o k (half .u1) (half .u0))
-turnedBy o (refuse k) = refuse 6
-
--- Theta 1: with alpha 1 at a/2
+-- Theta 1 and 2: sh = U1 and ch = U0 with alpha 1 at a/2, or 6; k = root(p)
 unfoldable pub turnedState : Scaled → (a : Float) → Checked State
-turnedState o a = turnedBy o (functionsAt (a ⊘ two) one)
+turnedState o a =
+    onward (renumbered 6 (functionsAt (a ⊘ two) one)) (λ half.
+    onward (rooted 14 (o .p)) (λ k.
+    reachedState o k (half .u1) (half .u0)))
 
 -- Theta 7: the angle stands as x, and the count is 0
 unfoldable pub thetaOf : (mu : Float) (r v : Vector) (a : Float) → Said

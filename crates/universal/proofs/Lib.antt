@@ -1,4 +1,5 @@
 pub mod Coefficients
+pub mod Worked
 pub mod AtZero
 pub mod Theorems
 pub mod Fixed
