@@ -5,6 +5,7 @@ use crate::chance::Chance;
 use crate::conic::Vector;
 use crate::damage;
 use crate::deck::MOST_CARDS;
+use crate::far_end_inputs;
 use crate::file_suite::{named, Named};
 use crate::kepler::{self, Input};
 use crate::kepler_inputs;
@@ -23,13 +24,14 @@ use crate::writer::deck;
 pub type SortRow = (&'static str, usize, u64, Sort);
 
 /// The sorts that are not transfers. The first is Kepler's own answers.
-pub const SORTS: [SortRow; 21] = [
+pub const SORTS: [SortRow; 22] = [
     ("own", 200, 16, own),
     ("moved", 60, 16, solved::moved),
     ("other-ways", 200, 16, solved::other_ways),
     ("state-bits", 3, 16, solved::state_bits),
     ("about-bracket", 40, 16, solved::about_bracket),
     ("about-ends", 20, 16, solved::about_ends),
+    ("past-far-end", 60, 16, far_end_inputs::cards),
     ("x-not-finite", 12, 16, solved::not_finite),
     ("about-near", 60, 16, solved::about_near),
     ("about-near-by-time", 60, 16, solved::about_near_by_time),

@@ -47,7 +47,10 @@ pub fn traits(input: &Input) -> Vec<String> {
     list.extend(before.map(|side| format!("{side} the old far end")));
     list.extend(between.then(|| "between the far ends".to_string()));
     let mut list = by_direction(list, t);
-    list.extend(now.zip(about_flat(&orbit)).map(|(side, alpha)| format!("{side} the far end with alpha {alpha} 1/64")));
+    list.extend(
+        now.zip(about_flat(&orbit))
+            .map(|(side, alpha)| format!("{side} the far end with alpha {alpha} 1/64")),
+    );
     list
 }
 
@@ -102,5 +105,8 @@ fn passed_before(card: &Card) -> Option<(Orbit, f64)> {
 /// Backwards in time they are told apart.
 fn by_direction(kinds: Vec<String>, t: f64) -> Vec<String> {
     let front = if t < 0.0 { "backwards " } else { "" };
-    kinds.into_iter().map(|kind| format!("{front}{kind}")).collect()
+    kinds
+        .into_iter()
+        .map(|kind| format!("{front}{kind}"))
+        .collect()
 }

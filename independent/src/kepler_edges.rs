@@ -4,7 +4,8 @@ use crate::answer::Answer;
 use crate::chance::{power_of_two, Chance};
 use crate::conic::{Orbit, Vector, Words, LOW};
 use crate::edges;
-use crate::kepler::{answer, far_end, Input};
+use crate::far_ends::old_time;
+use crate::kepler::{answer, far_end, Input, FLAT};
 use crate::kepler_inputs::{aimed, unhurried};
 use crate::motion::{self, beside, either_way, last, orbit_of, with, Frame, SPAN};
 use crate::search::NEAR;
@@ -58,7 +59,7 @@ impl Exact {
     }
 
     pub fn time(&self, x: f64) -> f64 {
-        self.orbit.time(&unrefused(x, self.orbit.alpha))
+        old_time(&self.orbit, x)
     }
 
     pub fn radius(&self, x: f64) -> f64 {
@@ -92,13 +93,20 @@ fn both_limits(words: Words) -> [Input; 2] {
 
 /// |alpha| 1/64, where X changes its rule.
 fn about_alpha(chance: &mut Chance) -> Vec<Input> {
-    let (frame, s) = (Frame::exact(chance), chance.between(-1.0, 1.0));
-    let q = 2.0 + chance.sign() / 64.0;
-    let k = (q - s * s).sqrt();
-    (-5..=5)
-        .map(|places| frame.words([s, beside(k, places), 0.0], 0.0))
+    let frame = Frame::exact(chance);
+    about_flat(chance)
+        .into_iter()
+        .map(|w| frame.words(w, 0.0))
         .flat_map(|words| both_limits(aimed(words, chance.between(0.0, 1.0))))
         .collect()
+}
+
+/// Scaled velocities whose |alpha| is 1/64 or nearly so.
+pub fn about_flat(chance: &mut Chance) -> Vec<Vector> {
+    let s = chance.between(-1.0, 1.0);
+    let q = 2.0 + chance.sign() * FLAT;
+    let k = (q - s * s).sqrt();
+    (-5..=5).map(|places| [s, beside(k, places), 0.0]).collect()
 }
 
 /// p 2^-20, where 7 begins, without time and with.

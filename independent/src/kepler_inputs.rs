@@ -2,6 +2,7 @@
 
 use crate::chance::{power_of_two, Chance};
 use crate::conic::{Orbit, Vector, Words};
+use crate::far_end_inputs;
 use crate::kepler::{far_end, Input};
 use crate::kepler_edges;
 use crate::motion::{self, orbit_of, with, Frame, PLAIN, SPAN};
@@ -34,6 +35,7 @@ pub fn fixed() -> Vec<Input> {
     list.extend(kepler_edges::all(chance));
     list.extend((0..400).map(|_| unhurried(long_arc(chance))));
     list.extend((0..16_000).map(|_| mixed(chance)));
+    list.extend(far_end_inputs::problems(chance));
     list
 }
 

@@ -5,6 +5,7 @@ use crate::bytes::u32_at;
 use crate::card_numbers;
 use crate::cards::{Card, Claim, Kind};
 use crate::deck::{self, ENTRIES, ENTRY, MOST_CARDS};
+use crate::far_ends;
 use crate::kepler::PROBLEM;
 use crate::units;
 
@@ -16,7 +17,8 @@ pub type Judged<'a> = (&'a Card, &'a str);
 
 /// Of a listing: the kind and the verdict of each card, or the deck's refusal; whether the deck has a
 /// transfer, and is refused with it; whether its listing is the longest that there is; and the kinds of its
-/// refused cards' numbers and of its units. A listing calls a transfer solved; here it is told apart.
+/// refused cards' numbers, of its units, and of its solved cards about the far end. A listing calls a transfer
+/// solved; here it is told apart.
 pub fn listed(deck: &[u8], listing: &[u8]) -> Vec<String> {
     let listing = String::from_utf8_lossy(listing);
     let mut entries = entries(deck);
@@ -36,6 +38,7 @@ pub fn listed(deck: &[u8], listing: &[u8]) -> Vec<String> {
     let judged: Vec<Judged> = cards.iter().zip(verdicts).collect();
     kinds.extend(card_numbers::kinds(&judged));
     kinds.extend(units::kinds(&judged, &listing));
+    kinds.extend(far_ends::kinds(&judged));
     kinds
 }
 

@@ -14,6 +14,8 @@ mod deck;
 mod deck_inputs;
 mod edges;
 mod ends;
+mod far_end_inputs;
+mod far_ends;
 mod file_suite;
 mod kepler;
 mod kepler_edges;
@@ -28,6 +30,7 @@ mod refused_cards;
 mod root;
 mod root_inputs;
 mod search;
+mod series_inputs;
 mod solved_cards;
 mod spoilt;
 mod suite;
@@ -58,8 +61,8 @@ usage: independent NAME inputs                    the gate's inputs, in little-e
        independent NAME answers                   reads inputs, writes the lines of each
        independent NAME traits                    reads inputs, writes a line for each trait of each
        independent NAME random SEED COUNT [FROM]  COUNT inputs made from SEED, from place FROM on
-NAME is a proved program's: roots, root_digits, predict, turn or transfer. Each input of check_deck and
-copy_deck is a file, PLACE.deck, and so is each of write_deck, PLACE.problems; NAME is one of these three:
+NAME is a proved program's: roots, root_digits, series, predict, turn or transfer. Each input of check_deck
+and copy_deck is a file, PLACE.deck, and so is each of write_deck, PLACE.problems; NAME is one of these three:
        independent NAME inputs INTO               the gate's inputs, into the folder INTO
        independent NAME answers INPUTS INTO       for each input of a folder a file PLACE.answer
        independent NAME random SEED COUNT [FROM] INTO
@@ -85,12 +88,23 @@ const ROOT_DIGITS: Suite<u64, 8> = Suite {
     ..ROOTS
 };
 
+const SERIES: Suite<u64, 8> = Suite {
+    fixed: series_inputs::fixed,
+    mixed: series_inputs::mixed,
+    lines: |bytes| universal::line(f64::from_le_bytes(bytes)),
+    traits: |bytes| traits::of_z(f64::from_le_bytes(bytes)),
+    ..ROOTS
+};
+
 const PREDICT: Suite<kepler::Input, { kepler::PROBLEM }> = Suite {
     fixed: kepler_inputs::fixed,
     mixed: kepler_inputs::mixed,
     bytes: kepler::Input::bytes,
     lines: |bytes| kepler::answer(&kepler::Input::read(&bytes)).to_string(),
-    traits: |bytes| traits::of_prediction(&bytes),
+    traits: |bytes| {
+        let about_far_end = far_ends::traits(&kepler::Input::read(&bytes));
+        [traits::of_prediction(&bytes), about_far_end].concat()
+    },
 };
 
 const TURN: Suite<Words, 64> = Suite {
@@ -143,6 +157,7 @@ fn main() -> ExitCode {
     let done = match given[..] {
         ["roots", ref command @ ..] => ROOTS.run(&mut out, command),
         ["root_digits", ref command @ ..] => ROOT_DIGITS.run(&mut out, command),
+        ["series", ref command @ ..] => SERIES.run(&mut out, command),
         ["predict", ref command @ ..] => PREDICT.run(&mut out, command),
         ["turn", ref command @ ..] => TURN.run(&mut out, command),
         ["transfer", ref command @ ..] => TRANSFER

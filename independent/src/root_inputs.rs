@@ -2,7 +2,7 @@
 
 use crate::chance::Chance;
 
-const SIGN: u64 = 1 << 63;
+pub const SIGN: u64 = 1 << 63;
 const INFINITY: u64 = 0x7ff << 52;
 const SMALLEST_NORMAL: u64 = 1 << 52;
 const FRACTION: u64 = SMALLEST_NORMAL - 1;
@@ -58,7 +58,7 @@ fn around(word: u64) -> [u64; 3] {
     [word.wrapping_sub(1), word, word.wrapping_add(1)]
 }
 
-fn edges() -> impl Iterator<Item = u64> {
+pub fn edges() -> impl Iterator<Item = u64> {
     // With what stands around them: zero, the smallest subnormal, the line between subnormal and
     // normal, one, the line between the largest number and infinity. Each with either sign.
     [0, 1, SMALLEST_NORMAL, 1f64.to_bits(), INFINITY]
@@ -68,14 +68,14 @@ fn edges() -> impl Iterator<Item = u64> {
 }
 
 /// 2^-1074 to 2^1023, so that each exponent is met, odd and even, with both ends of its numbers.
-fn powers_of_two() -> impl Iterator<Item = u64> {
+pub fn powers_of_two() -> impl Iterator<Item = u64> {
     let subnormal = (0..52).map(|bit| 1 << bit);
     let normal = (1..0x7ff).map(|field| field << 52);
     subnormal.chain(normal).flat_map(around)
 }
 
 /// Each run of ones, at each place of the fraction, and random ones of each length.
-fn subnormals(chance: &mut Chance) -> Vec<u64> {
+pub fn subnormals(chance: &mut Chance) -> Vec<u64> {
     let runs = (0..52).flat_map(|low| (1..=52 - low).map(move |ones| ((1 << ones) - 1) << low));
     let random = (0..2_000).map(|_| chance.short(52));
     runs.chain(random).collect()
@@ -110,7 +110,7 @@ fn near_power_of_two(chance: &mut Chance) -> u64 {
 }
 
 /// Quiet and signalling NaNs with each single bit of payload and with random ones, either sign.
-fn not_numbers(chance: &mut Chance) -> Vec<u64> {
+pub fn not_numbers(chance: &mut Chance) -> Vec<u64> {
     let single = (0..52).map(|bit| 1 << bit);
     let random = (0..500).map(|_| chance.short(52).max(1));
     single

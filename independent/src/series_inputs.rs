@@ -16,7 +16,7 @@ pub fn fixed() -> Vec<u64> {
     let sizes = about_widest()
         .chain(eighths())
         .chain(powers_of_two())
-        .chain(subnormals(chance).into_iter().step_by(2));
+        .chain(subnormals(chance));
     list.extend(sizes.flat_map(|size| [size, size | SIGN]));
     list.extend((0..16_000).map(|_| mixed(chance)));
     list

@@ -191,7 +191,8 @@ pub fn about_ends(chance: &mut Chance) -> Vec<Card> {
     cards
 }
 
-fn around(end: f64) -> Vec<f64> {
+/// An end's size, and two last places on each side that it has.
+pub fn around(end: f64) -> Vec<f64> {
     let below = (1..=2).filter(|_| end > 0.0).map(|n| beside(end, -n));
     below.chain((0..=2).map(|n| beside(end, n))).collect()
 }

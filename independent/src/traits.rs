@@ -1,11 +1,13 @@
-//! The traits of a prediction or a transfer that the gate counts beside its answer, a line each. So a list
+//! The traits of a prediction, a transfer or a z that the gate counts beside its answer, a line each. So a list
 //! without the inputs that are to be tried does not pass. Of a transfer nothing counts where the way is
 //! none, and angle, radii and times only where the tests before them are passed.
 
 use crate::bytes::words_from_bytes;
 use crate::conic::{self, Words};
 use crate::transfer::{placed, Input, Positions, FAR, LONG, OPEN, SHORT};
+use crate::universal::WIDEST;
 use std::cmp::Ordering;
+use std::num::FpCategory;
 
 /// A name, and the least number that has it and the least above that has it no more.
 pub type Range = (&'static str, f64, f64);
@@ -20,6 +22,16 @@ const RATIOS: [Range; 5] = [
     ("ratio 0.1 to 10", 0.1, 10.0),
     ("ratio 10 to 1e3", 10.0, 1e3),
     ("ratio above 1e9", 1e9, f64::INFINITY),
+];
+
+/// The ranges of a z without its sign that are counted.
+const SIZES: [Range; 6] = [
+    ("below 1e-100", 0.0, 1e-100),
+    ("1e-100 to 1e-10", 1e-100, 1e-10),
+    ("1e-10 to 1", 1e-10, 1.0),
+    ("1 to 4", 1.0, 4.0),
+    ("4 to 8", 4.0, 8.0),
+    ("from 8 on", 8.0, f64::INFINITY),
 ];
 
 /// How many last places beside a line a number may be.
@@ -106,6 +118,23 @@ pub fn range_of(ranges: &[Range], x: f64) -> Option<&'static str> {
     Some(name)
 }
 
+/// Of a z of C2 and C3: on which side of 4 or -4 it is that it is about, what sort of number it is, and how
+/// large; with its sign in front.
+pub fn of_z(z: f64) -> Vec<String> {
+    let lines = [WIDEST, -WIDEST].into_iter();
+    let about = lines.filter_map(|line| Some(format!("{} {line}", side_within(64, z, line)?)));
+    let sort = match z.classify() {
+        FpCategory::Nan => Some("NaN"),
+        FpCategory::Infinite => Some("infinite"),
+        FpCategory::Zero => Some("zero"),
+        FpCategory::Subnormal => Some("subnormal"),
+        FpCategory::Normal => range_of(&SIZES, z.abs()),
+    };
+    let front = if z.is_sign_negative() { "-" } else { "" };
+    let sort = sort.map(|sort| format!("{front}{sort}"));
+    about.chain(sort).collect()
+}
+
 /// Whether 1 - |c| is on the bound of 50 or beside it, and near which angle. It is below where |c| is
 /// above, and last places count in |c|.
 fn bound(places: &Positions, way: u32) -> Option<String> {
@@ -131,8 +160,13 @@ fn times(places: Positions, way: u32, t: f64) -> Vec<String> {
 }
 
 /// On which side of a line a number is that is on it or a few last places beside it.
-fn side(x: f64, line: f64) -> Option<&'static str> {
-    let near = x.to_bits().abs_diff(line.to_bits()) <= PLACES;
+pub fn side(x: f64, line: f64) -> Option<&'static str> {
+    side_within(PLACES, x, line)
+}
+
+/// The same, up to so many last places.
+fn side_within(places: u64, x: f64, line: f64) -> Option<&'static str> {
+    let near = x.to_bits().abs_diff(line.to_bits()) <= places;
     match x.partial_cmp(&line).filter(|_| near && line.is_finite())? {
         Ordering::Less => Some("below"),
         Ordering::Equal => Some("at"),

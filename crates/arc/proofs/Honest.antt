@@ -1,5 +1,6 @@
--- A root that is refused stands in T(z) as NaN, and that hides nothing: where T(z) is finite, both roots were given (`roots-given`). A NaN goes
--- through every operation on the way; a k that is NaN makes y NaN, whose root is refused.
+-- A root that is refused stands in T(z) as NaN, and so do functions that are refused. That hides nothing: where T(z) is finite, both roots were
+-- given (`roots-given`) and so were the functions (`functions-given`). A NaN goes through every operation on the way; a C that is NaN has no root,
+-- and a k that is NaN makes y NaN, whose root is refused.
 use mathlib.Core.Path.{_≡_, refl, sym, ap, _∙_}
 use mathlib.Core.Logic.{_⊎_, inl, inr}
 use mathlib.Core.Bool.{true, true≢false}
@@ -8,7 +9,10 @@ use Rattle.exact.specs.Numbers.{_⊕_, _⊖_, _⊗_, _⊘_, one, isFinite}
 use Rattle.root.specs.Said as root
 use Rattle.root.specs.Root.{rootOf}
 use Rattle.root.proofs.Cases.{refuses-not-finite}
-use Rattle.universal.specs.Functions.{functionsAt}
+use Rattle.rows.specs.Rows.{Checked, pass, refuse}
+use Rattle.universal.specs.declared.Functions.{Functions}
+use Rattle.universal.specs.Functions.{functionsAt, orNans}
+use Rattle.universal.proofs.Worked.{Works, passed-works}
 use Rattle.arc.specs.declared.Scaled.{Scaled}
 use Rattle.arc.specs.Arc.{orNan, rootOrNan, shapeAt, timeAt}
 
@@ -50,6 +54,9 @@ abbrev pub Given : Float → Type 0
 Given x = (r : Float) × (rootOf x ≡ root.root r)
 
 module _ (o : Scaled) (z : Float) (f : isFinite (timeAt o z) ≡ true) where
+  abbrev u : Functions
+  u = orNans (functionsAt one z)
+
   abbrev y : Float
   y = shapeAt (o .rho) (o .a) z .y
 
@@ -62,13 +69,24 @@ module _ (o : Scaled) (z : Float) (f : isFinite (timeAt o z) ≡ true) where
   nan-time e = rw (e, times-nan (o .a)) (plus-nan _)
 
   -- and y where k is
-  nan-shape : rootOrNan (functionsAt one z .u2) ≡ nan → y ≡ nan
+  nan-shape : rootOrNan (u .u2) ≡ nan → y ≡ nan
   unfolding shapeAt
-  nan-shape e = rw (e, over-nan (o .a ⊗ (one ⊖ z ⊗ functionsAt one z .u3))) (minus-nan (one ⊕ o .rho))
+  nan-shape e = rw (e, over-nan (o .a ⊗ (one ⊖ z ⊗ u .u3))) (minus-nan (one ⊕ o .rho))
 
-  pub roots-given : Given (functionsAt one z .u2) × Given y
+  -- so C has a root
+  no-nan-root : {A : Type 0} → rootOrNan (u .u2) ≡ nan → A
   unfolding rootOrNan
-  roots-given = (
-    elim (given-or-nan (rootOf (functionsAt one z .u2))) [ inl g ↦ g | inr e ↦ no-nan (nan-time (ap orNan (ap rootOf (nan-shape e) ∙ refuses-not-finite nan refl))) ],
-    elim (given-or-nan (rootOf y)) [ inl g ↦ g | inr e ↦ no-nan (nan-time e) ],
-  )
+  no-nan-root e = no-nan (nan-time (ap orNan (ap rootOf (nan-shape e) ∙ refuses-not-finite nan refl)))
+
+  pub roots-given : Given (u .u2) × Given y
+  unfolding rootOrNan
+  roots-given = (elim (given-or-nan (rootOf (u .u2))) [ inl g ↦ g | inr e ↦ no-nan-root e ], elim (given-or-nan (rootOf y)) [ inl g ↦ g | inr e ↦ no-nan (nan-time e) ])
+
+  -- and is none of the NaNs that stand for refused functions
+  pub functions-given : Works one z
+  unfolding rootOrNan
+  functions-given = go (functionsAt one z) refl
+    where
+      go : (c : Checked Functions) → functionsAt one z ≡ c → Works one z
+      go (pass v) e = e ∙ ap pass (sym (passed-works one z e .1))
+      go (refuse k) e = no-nan-root (ap (λ (c : Checked Functions). rootOrNan (orNans c .u2)) e ∙ ap orNan (refuses-not-finite nan refl))

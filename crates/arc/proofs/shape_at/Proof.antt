@@ -7,7 +7,7 @@ use Rattle.arc.proofs.shape_at.Tie as tie
 
 returns : tie.Need-returns
 unfolding shapeAt
-returns c = rw (c .root-or-nan2 .ensures, c .before .root-or-nan .ensures, c .before .before .at .ensures) refl
+returns c = rw (c .root-or-nan2 .ensures, c .before .root-or-nan .ensures, c .before .before .at-or-nan .ensures) refl
 
 pub shape-at-spec : {M : Type 1} → statement M
 shape-at-spec = tie.close (tie.spec (λ c κs. search needs) (λ c κs. search needs) (λ c κs. search needs) returns)
