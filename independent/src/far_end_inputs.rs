@@ -13,7 +13,7 @@ use crate::solved_cards::{around, sent};
 
 /// The problems: t at T of either end and beside it, and between the two.
 pub fn problems(chance: &mut Chance) -> Vec<Input> {
-    let motions: Vec<Vector> = (0..15).flat_map(|_| motions(chance)).collect();
+    let motions: Vec<Vector> = (0..20).flat_map(|_| motions(chance)).collect();
     let mut list = Vec::new();
     for w in motions {
         let exact = Exact::of(w, chance);
@@ -52,7 +52,7 @@ pub fn cards(chance: &mut Chance) -> Vec<Card> {
         return Vec::new();
     };
     let side = chance.sign();
-    let pairs = [on_time(&exact, chance), in_time(&exact, chance)].concat();
+    let pairs = [on_time(&exact, chance), nearly_on_time(&exact, chance)].concat();
     pairs
         .into_iter()
         .map(|(t, size)| sent(&exact, t, side, size))
@@ -71,13 +71,15 @@ fn on_time(exact: &Exact, chance: &mut Chance) -> Vec<(f64, f64)> {
         .collect()
 }
 
-/// t at most T(X), and sizes about X that are near enough: past X nothing is against them but x.
-fn in_time(exact: &Exact, chance: &mut Chance) -> Vec<(f64, f64)> {
+/// t about T(X) and sizes about X, near enough. Past X nothing is against x but x itself, and, up to X,
+/// nothing against t but t.
+fn nearly_on_time(exact: &Exact, chance: &mut Chance) -> Vec<(f64, f64)> {
     let (far, old) = ends(exact);
     let most = exact.time(far);
-    let less = most - NEAR * chance.between(0.0, 1.0);
+    let off = NEAR * chance.between(0.0, 1.0);
+    let beside = (-2..=2).map(|places| beside(most, places));
     let mut pairs = Vec::new();
-    for t in [most, beside(most, -1), beside(most, -2), less] {
+    for t in beside.chain([most - off, most + off]) {
         let end = last(far, old, |size| (exact.time(size) - t).abs() <= NEAR);
         let within = end.map(|end| [chance.between(far, end), end]);
         let sizes = around(far).into_iter().chain(within.into_iter().flatten());

@@ -3,15 +3,16 @@
 //! tell apart does not pass.
 
 use crate::cards::{Card, Claim};
-use crate::chance::power_of_two;
 use crate::conic::Orbit;
 use crate::deck::near;
 use crate::kepler::{bracket, far_end, posed, Input, FLAT};
 use crate::kinds::Judged;
 use crate::times::Times;
-use crate::traits::side;
+use crate::traits::{side, side_within};
 use crate::universal::{functions, unrefused};
-use std::cmp::Ordering;
+
+/// How far |alpha| may be from 1/64, in last places. alpha is 2 - q there, and moves by 64 to 256 of them.
+const STEPS: u64 = 1024;
 
 /// The X from before.
 pub fn old_far_end(orbit: &Orbit) -> f64 {
@@ -27,42 +28,36 @@ pub fn old_time(orbit: &Orbit, x: f64) -> f64 {
     orbit.time(&unrefused(x, orbit.alpha))
 }
 
-/// The traits of a problem, where the tests before the far end's are passed. RULES, The universal
-/// functions 10, is held here: from 0 to X |z| nowhere falls, so X is enough.
+/// The traits of a problem, where the tests before the far end's are passed.
 pub fn traits(input: &Input) -> Vec<String> {
     let Ok((orbit, t)) = posed(input) else {
         return Vec::new();
     };
-    let (far, old) = (far_end(&orbit).unwrap_or(0.0), old_far_end(&orbit));
+    let time = |x: f64| old_time(&orbit, if t < 0.0 { -x } else { x }).abs();
+    let (t_now, t_before) = (time(held(&orbit)), time(old_far_end(&orbit)));
+    let about = side(t.abs(), t_now);
+    let alpha = side_within(STEPS, orbit.alpha.abs(), FLAT);
+    let between = t_now < t.abs() && t.abs() <= t_before;
+    let traits = [
+        about.map(|side| format!("{side} the far end")),
+        side(t.abs(), t_before).map(|side| format!("{side} the old far end")),
+        between.then(|| "between the far ends".to_string()),
+        about
+            .zip(alpha)
+            .map(|(side, alpha)| format!("{side} the far end with alpha {alpha} 1/64")),
+    ];
+    by_direction(traits, t)
+}
+
+/// X, held to RULES, The universal functions 10: C2 and C3 are not refused there, nor before it, since |z|
+/// grows with |x|.
+fn held(orbit: &Orbit) -> f64 {
+    let far = far_end(orbit).expect("alpha is finite");
     assert!(
         functions(far, orbit.alpha).is_ok(),
         "C2 and C3 are refused at X, {far:e}"
     );
-    let times = [far, old].map(|x| old_time(&orbit, x.copysign(t)).abs());
-    let about = times.map(|time| side(t.abs(), time));
-    let [now, before] = about;
-    let between = times[0] < t.abs() && t.abs() <= times[1];
-    let mut list = Vec::new();
-    list.extend(now.map(|side| format!("{side} the far end")));
-    list.extend(before.map(|side| format!("{side} the old far end")));
-    list.extend(between.then(|| "between the far ends".to_string()));
-    let mut list = by_direction(list, t);
-    list.extend(
-        now.zip(about_flat(&orbit))
-            .map(|(side, alpha)| format!("{side} the far end with alpha {alpha} 1/64")),
-    );
-    list
-}
-
-/// On which side of 1/64 |alpha| is, where it is there or a few steps of alpha beside it.
-fn about_flat(orbit: &Orbit) -> Option<&'static str> {
-    let off = orbit.alpha.abs() - FLAT;
-    let near = off.abs() <= power_of_two(-49);
-    match off.partial_cmp(&0.0).filter(|_| near)? {
-        Ordering::Less => Some("below"),
-        Ordering::Equal => Some("at"),
-        Ordering::Greater => Some("above"),
-    }
+    far
 }
 
 /// The kinds of a deck with these cards.
@@ -75,11 +70,11 @@ fn of_card((card, verdict): &Judged) -> Vec<String> {
     let Some((orbit, x)) = passed_before(card) else {
         return Vec::new();
     };
-    let far = far_end(&orbit).unwrap_or(0.0);
-    let past = x.abs() > far;
-    let mut kinds = Vec::new();
-    kinds.extend(side(x.abs(), far).map(|side| format!("x {side} the far end {verdict}")));
-    kinds.extend(past.then(|| format!("past the far end {verdict}")));
+    let far = held(&orbit);
+    let kinds = [
+        side(x.abs(), far).map(|side| format!("x {side} the far end {verdict}")),
+        (x.abs() > far).then(|| format!("past the far end {verdict}")),
+    ];
     by_direction(kinds, x)
 }
 
@@ -102,11 +97,9 @@ fn passed_before(card: &Card) -> Option<(Orbit, f64)> {
     (unfolded.map(f64::to_bits) == state).then_some((orbit, x))
 }
 
-/// Backwards in time they are told apart.
-fn by_direction(kinds: Vec<String>, t: f64) -> Vec<String> {
+/// Those that there are. Backwards in time they are told apart.
+fn by_direction<const N: usize>(kinds: [Option<String>; N], t: f64) -> Vec<String> {
     let front = if t < 0.0 { "backwards " } else { "" };
-    kinds
-        .into_iter()
-        .map(|kind| format!("{front}{kind}"))
-        .collect()
+    let kinds = kinds.into_iter().flatten();
+    kinds.map(|kind| format!("{front}{kind}")).collect()
 }

@@ -26,12 +26,12 @@ const RATIOS: [Range; 5] = [
 
 /// The ranges of a z without its sign that are counted.
 const SIZES: [Range; 6] = [
-    ("below 1e-100", 0.0, 1e-100),
-    ("1e-100 to 1e-10", 1e-100, 1e-10),
-    ("1e-10 to 1", 1e-10, 1.0),
-    ("1 to 4", 1.0, 4.0),
-    ("4 to 8", 4.0, 8.0),
-    ("from 8 on", 8.0, f64::INFINITY),
+    ("size below 1e-100", 0.0, 1e-100),
+    ("size 1e-100 to 1e-10", 1e-100, 1e-10),
+    ("size 1e-10 to 1", 1e-10, 1.0),
+    ("size 1 to 4", 1.0, 4.0),
+    ("size 4 to 8", 4.0, 8.0),
+    ("size above 8", 8.0, f64::INFINITY),
 ];
 
 /// How many last places beside a line a number may be.
@@ -119,7 +119,7 @@ pub fn range_of(ranges: &[Range], x: f64) -> Option<&'static str> {
 }
 
 /// Of a z of C2 and C3: on which side of 4 or -4 it is that it is about, what sort of number it is, and how
-/// large; with its sign in front.
+/// large.
 pub fn of_z(z: f64) -> Vec<String> {
     let lines = [WIDEST, -WIDEST].into_iter();
     let about = lines.filter_map(|line| Some(format!("{} {line}", side_within(64, z, line)?)));
@@ -130,7 +130,11 @@ pub fn of_z(z: f64) -> Vec<String> {
         FpCategory::Subnormal => Some("subnormal"),
         FpCategory::Normal => range_of(&SIZES, z.abs()),
     };
-    let front = if z.is_sign_negative() { "-" } else { "" };
+    let front = if z.is_sign_negative() {
+        "negative "
+    } else {
+        ""
+    };
     let sort = sort.map(|sort| format!("{front}{sort}"));
     about.chain(sort).collect()
 }
@@ -165,7 +169,7 @@ pub fn side(x: f64, line: f64) -> Option<&'static str> {
 }
 
 /// The same, up to so many last places.
-fn side_within(places: u64, x: f64, line: f64) -> Option<&'static str> {
+pub fn side_within(places: u64, x: f64, line: f64) -> Option<&'static str> {
     let near = x.to_bits().abs_diff(line.to_bits()) <= places;
     match x.partial_cmp(&line).filter(|_| near && line.is_finite())? {
         Ordering::Less => Some("below"),

@@ -22,7 +22,7 @@ use Rattle.root.proofs.Whole.{square-le}
 use Rattle.root.proofs.Theorems.{definition-holds}
 use Rattle.rows.specs.Rows.{pass, onward}
 use Rattle.units.specs.Units.{rooted}
-use Rattle.entry.specs.Entry.{sixtyFourth, sixtyFour, eight, farEndOf}
+use Rattle.entry.specs.Entry.{sixtyFourth, farthest, reach, farEndOf}
 
 -- ---- the closed numbers
 
@@ -37,24 +37,24 @@ eighth-plus : Plus eighth
 unfolding ofBits
 eighth-plus = ((ofBits-fits binary64 0x3fc0_0000_0000_0000, tt), refl)
 
-eight-plus : Plus eight
+reach-plus : Plus reach
 unfolding ofBits
-eight-plus = ((ofBits-fits binary64 0x4020_0000_0000_0000, tt), refl)
+reach-plus = ((ofBits-fits binary64 0x401f_c000_0000_0000, tt), refl)
 
-sixtyFour-plus : Plus sixtyFour
+farthest-plus : Plus farthest
 unfolding ofBits
-sixtyFour-plus = ((ofBits-fits binary64 0x4050_0000_0000_0000, tt), refl)
+farthest-plus = ((ofBits-fits binary64 0x404f_c000_0000_0000, tt), refl)
 
 square-of-eighth : steps binary64 eighth * steps binary64 eighth ≡ steps binary64 sixtyFourth * 2 ^ 1074
 unfolding steps ofBits
 square-of-eighth = refl
 
-eighth-of-sixtyFour : steps binary64 eight * 2 ^ low binary64 ≡ steps binary64 sixtyFour * steps binary64 eighth
+eighth-of-farthest : steps binary64 reach * 2 ^ low binary64 ≡ steps binary64 farthest * steps binary64 eighth
 unfolding steps ofBits
-eighth-of-sixtyFour = refl
+eighth-of-farthest = refl
 
 -- 8 over the largest number is still more than one step
-more-than-a-step : (n : ℕ) → n < overflow binary64 → n ≤ steps binary64 eight * 2 ^ low binary64
+more-than-a-step : (n : ℕ) → n < overflow binary64 → n ≤ steps binary64 reach * 2 ^ low binary64
 unfolding steps ofBits
 more-than-a-step n l = le-trans (le-of-lt l) (lit≤ tt)
 
@@ -87,23 +87,23 @@ pub record IsFarEnd (x : Float) : Type 0 where
   pub number : Number binary64 x
   pub plus : isMinus x ≡ false
   pub positive : T (lt nought x)
-  pub most : T (le x sixtyFour)
+  pub most : T (le x farthest)
 
-quotient : (r : Float) → Plus r → steps binary64 eighth ≤ steps binary64 r → IsFarEnd (eight ⊘ r)
+quotient : (r : Float) → Plus r → steps binary64 eighth ≤ steps binary64 r → IsFarEnd (reach ⊘ r)
 quotient r p l =
     let C : 0 < steps binary64 r = lt-of-lt-of-le eighth-pos l in
-    let w = div-most eight r eight-plus p (steps binary64 sixtyFour) (steps-held sixtyFour (sixtyFour-plus .0 .0)) C (le-trans (le-of-eq eighth-of-sixtyFour) (mul-le-mul-left (steps binary64 sixtyFour) l)) in
+    let w = div-most reach r reach-plus p (steps binary64 farthest) (steps-held farthest (farthest-plus .0 .0)) C (le-trans (le-of-eq eighth-of-farthest) (mul-le-mul-left (steps binary64 farthest) l)) in
     let n = w .plus .0 in
     record {
       number = n;
       plus = w .plus .1;
-      positive = positive-is (eight ⊘ r) n .1 (w .plus .1, div-some eight r eight-plus p C (more-than-a-step (steps binary64 r) (steps-lt binary64 r (p .0 .0))) (n .1));
-      most = plus-le binary64 (eight ⊘ r) sixtyFour n (sixtyFour-plus .0) (w .plus .1) (sixtyFour-plus .1) .1 (w .most);
+      positive = positive-is (reach ⊘ r) n .1 (w .plus .1, div-some reach r reach-plus p C (more-than-a-step (steps binary64 r) (steps-lt binary64 r (p .0 .0))) (n .1));
+      most = plus-le binary64 (reach ⊘ r) farthest n (farthest-plus .0) (w .plus .1) (farthest-plus .1) .1 (w .most);
     }
 
-sixtyFour-far : IsFarEnd sixtyFour
+farthest-far : IsFarEnd farthest
 unfolding ofBits lt le eq
-sixtyFour-far = record { number = sixtyFour-plus .0; plus = sixtyFour-plus .1; positive = tt; most = tt }
+farthest-far = record { number = farthest-plus .0; plus = farthest-plus .1; positive = tt; most = tt }
 
 -- ---- the far end
 
@@ -115,13 +115,13 @@ unfolding farEndOf rooted onward
 far-end alpha h = go (le (magnitude alpha) sixtyFourth) refl
   where
     go : (b : Bool) → le (magnitude alpha) sixtyFourth ≡ b → (x : Float) × (farEndOf alpha ≡ pass x) × IsFarEnd x
-    go true e = (sixtyFour, rw e, sixtyFour-far)
+    go true e = (farthest, rw e, farthest-far)
     go false e =
         let p = magnitude-plus alpha h in
         let above = above-sixtyFourth (magnitude alpha) p e in
         let r = definition-holds (magnitude alpha) (p .0 .0) .above-zero (p .0 .1) (positive-is (magnitude alpha) (p .0) .1 (p .1, lt-of-le-of-lt zero-le above)) in
         let k = root-least (magnitude alpha) (r .0) above (r .2) in
-        (eight ⊘ r .0, rw (e, r .1), quotient (r .0) (k .0) (k .1))
+        (reach ⊘ r .0, rw (e, r .1), quotient (r .0) (k .0) (k .1))
 
 -- whatever passes as the far end is that one
 pub far-end-is : (alpha x : Float) → Number binary64 alpha → farEndOf alpha ≡ pass x → IsFarEnd x

@@ -3,14 +3,16 @@
 use mathlib.Core.Path.{_≡_, refl}
 use Prim.Native.Nat.{ℕ}
 use lib.Ieee.{Float}
+use Rattle.exact.specs.Numbers.{_⊘_, one, two}
 use Rattle.search.specs.Answers.{refused}
 use Rattle.search.proofs.Answers.{RefusalHas, found-numbered}
 use Rattle.rows.specs.Rows.{onward}
-use Rattle.rows.proofs.Laws.{Refuses, must-refuses, onward-refuses}
+use Rattle.rows.proofs.Laws.{Refuses, must-refuses, renumbered-refuses, onward-refuses}
 use Rattle.vectors.specs.declared.Vector.{Vector}
 use Rattle.vectors.specs.Vectors.{numbersGiven}
 use Rattle.units.proofs.Places.{FirstNotFinite}
 use Rattle.units.proofs.Refusals.{root-refuses}
+use Rattle.universal.specs.Functions.{functionsAt}
 use Rattle.conic.specs.declared.Scaled.{Scaled}
 use Rattle.conic.specs.Said.{inputNumber}
 use Rattle.conic.proofs.Arrival.{unfolding-refuses}
@@ -26,7 +28,7 @@ module _ (mu : Float) (r v : Vector) (a : Float) where
 
     turning-refuses : (o : Scaled) → Refuses P (turnedState o a)
     unfolding turnedState
-    turning-refuses o = onward-refuses _ _ (root-refuses 14 _ (others .p14)) (λ k. reaching-refuses o k _ _)
+    turning-refuses o = onward-refuses _ _ (renumbered-refuses 6 (functionsAt (a ⊘ two) one) (others .p6)) (λ half. onward-refuses _ _ (root-refuses 14 _ (others .p14)) (λ k. reaching-refuses o k _ _))
 
     refusals-have : RefusalHas P P (thetaOf mu r v a)
     unfolding thetaOf

@@ -11,13 +11,13 @@ use Rattle.search.specs.declared.Bracket.{Bracket}
 use Rattle.vectors.specs.declared.Vector.{Vector}
 use Rattle.conic.specs.declared.Problem.{Problem}
 use Rattle.conic.specs.declared.Scaled.{Scaled}
-use Rattle.rows.specs.Rows.{pass, onward}
+use Rattle.rows.specs.Rows.{Checked, pass, onward}
 use Rattle.search.specs.Answers.{solved, refused, refusedWithBracket}
 use Rattle.conic.specs.Said.{Said}
-use Rattle.universal.specs.Functions.{four, functionsAt}
-use Rattle.conic.specs.TimeAndRatio.{ratioAt}
-use Rattle.conic.specs.Unfolding.{stateAt}
-use Rattle.entry.specs.Entry.{sixtyFour, eight, entryOf}
+use Rattle.universal.specs.Series.{four}
+use Rattle.universal.specs.Functions.{functionsAt, ratioOf}
+use Rattle.conic.specs.Unfolding.{unfolded}
+use Rattle.entry.specs.Entry.{entryOf}
 use Rattle.kepler.specs.Kepler.{keplerOf}
 use Rattle.text.specs.Text.{text}
 use Rattle.card.specs.declared.Kind.the-variants as kind
@@ -42,16 +42,17 @@ pub data Trial : Type 0 where
 abbrev alphaAndFarEnd : Scaled × Bracket → Float × Float
 alphaAndFarEnd e = (e .0 .alpha, e .1 .hi .x)
 
-abbrev unfoldedAt : Float → Scaled × Bracket → Float × Float × Float × Vector
+abbrev unfoldedAt : Float → Scaled × Bracket → Checked (Float × Float × Float × Vector)
 unfoldedAt x e =
     let o = e .0 in
-    let u = functionsAt x (o .alpha) in
-    (u .u1, u .u2, ratioAt o x, stateAt o x .r)
+    onward (functionsAt x (o .alpha)) (λ u.
+    let ratio = ratioOf (o .s) u in
+    pass (u .u1, u .u2, ratio, unfolded o (u .u1) (u .u2) ratio .r))
 
 abbrev pub Holds : Trial → Type 0
 Holds (rootGives x s) = rootOf x ≡ s
 Holds (startsAt p alpha X) = onward (entryOf p) (λ e. pass (alphaAndFarEnd e)) ≡ pass (alpha, X)
-Holds (unfoldsAt p x u1 u2 ratio r) = onward (entryOf p) (λ e. pass (unfoldedAt x e)) ≡ pass (u1, u2, ratio, r)
+Holds (unfoldsAt p x u1 u2 ratio r) = onward (entryOf p) (unfoldedAt x) ≡ pass (u1, u2, ratio, r)
 Holds (keplerGives p s) = keplerOf p ≡ s
 Holds (laidOut cards front) = take (length front) (deckOf cards) ≡ front
 Holds (listingGives deck listing) = listingOf deck ≡ listing
@@ -111,8 +112,8 @@ table =
     ∷ rootGives (numberOf 0x8000_0000_0000_0000) (root.root (numberOf 0x8000_0000_0000_0000))
     ∷ rootGives (numberOf 0xbff0_0000_0000_0000) (root.refused 13)
     -- v (1,1,0): alpha and X; U1, U2, R and the position at x = 4
-    ∷ startsAt (problem diagonal nought 20) nought sixtyFour
-    ∷ unfoldsAt (problem diagonal nought 20) four four eight (numberOf 0x402a_0000_0000_0000) (vector (numberOf 0x4014_0000_0000_0000) (numberOf 0x4028_0000_0000_0000) nought)
+    ∷ startsAt (problem diagonal nought 20) nought (numberOf 0x404f_c000_0000_0000)
+    ∷ unfoldsAt (problem diagonal nought 20) four four (numberOf 0x4020_0000_0000_0000) (numberOf 0x402a_0000_0000_0000) (vector (numberOf 0x4014_0000_0000_0000) (numberOf 0x4028_0000_0000_0000) nought)
     -- v (0,1,0), dt 0
     ∷ keplerGives (problem (across one) nought 20) (theStateGiven (across one))
     -- a straight line; across by 2^-10, and by 2^-11
