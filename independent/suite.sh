@@ -10,6 +10,14 @@ each() { # KIND NUMBER...
     printf '%s' "${list#, }"
 }
 
+# Each KIND, and the same with WORD in front.
+both() { # WORD KIND...
+    local word=$1 kind list=
+    shift
+    for kind; do list+=", $kind, $word $kind"; done
+    printf '%s' "${list#, }"
+}
+
 # Of a prediction's eight numbers each one not finite alone, and each two together; and with what 2 and 5 would
 # refuse.
 not_finite() { # LEAST_ALONE
@@ -21,16 +29,38 @@ not_finite() { # LEAST_ALONE
     done
 }
 
+# Problems whose t is about T at the far end, or at the old one, each way in time; and the same where |alpha| is
+# about 1/64.
+far_ends() {
+    both backwards 'below the far end: 420' 'at the far end: 200' 'above the far end: 400' \
+        'below the old far end: 340' 'at the old far end: 160' 'above the old far end: 330' 'between the far ends: 1500' \
+        'below the far end with alpha below 1/64: 55' 'at the far end with alpha below 1/64: 22' \
+        'above the far end with alpha below 1/64: 55' 'below the far end with alpha at 1/64: 28' \
+        'at the far end with alpha at 1/64: 14' 'above the far end with alpha at 1/64: 28' \
+        'below the far end with alpha above 1/64: 90' 'at the far end with alpha above 1/64: 40' \
+        'above the far end with alpha above 1/64: 90'
+}
+
+# Solved cards that the old far end let pass, each way in time.
+past_far_end() {
+    both backwards 'past the far end 8: 450' 'past the far end 20: 300' 'x below the far end 0: 550' \
+        'x below the far end 8: 75' 'x at the far end 0: 240' 'x at the far end 8: 55' 'x above the far end 8: 160' \
+        'x above the far end 20: 190'
+}
+
 # A suite: the program's name here and in the independent program; the form of its inputs: the bytes of
 # one, or, where these have many sizes and each is a file of its own, the ending of the files' names; the
-# fewest inputs that the gate takes; and the fewest of each kind among them: kinds of answer, and for
-# predictions, transfers, cards' numbers and units of time kinds of input too, so that a list can't leave
-# out what it must try.
+# fewest inputs that the gate takes; and the fewest of each kind among them: kinds of answer, and for the
+# series, predictions, transfers, cards' numbers, units of time and the far end kinds of input too, so that a
+# list can't leave out what it must try.
 suites=(
     "roots 8 20000 refused 1: 1000, refused 13: 1000, root: 20000"
     "root_digits 8 9000 refused 1: 100, refused 13: 430, root: 8500, rounded: 8500, turn: 459000"
+    "series 8 35000 refused 60: 11000, series: 25000, below 4: 115, at 4: 3, above 4: 135, below -4: 125, at -4: 3, \
+above -4: 130, $(both negative 'zero: 40' 'subnormal: 3400' 'infinite: 1' 'NaN: 520' 'size below 1e-100: 2900' \
+'size 1e-100 to 1e-10: 1700' 'size 1e-10 to 1: 1400' 'size 1 to 4: 2800' 'size 4 to 8: 600' 'size above 8: 4400')"
     "predict 68 20000 $(each 'refused #: 100' {101..108}), refused 2: 20, refused 3: 20, refused 5: 20, refused 6: 20, \
-refused 7: 20, refused 8: 20, refused 9: 20, refused 10: 20, refused 11: 20, solved: 10000, $(not_finite 120)"
+refused 7: 20, refused 8: 20, refused 9: 20, refused 10: 20, refused 11: 20, solved: 10000, $(not_finite 120), $(far_ends)"
     "turn 64 10000 $(each 'refused #: 100' {101..108}), refused 2: 20, refused 4: 20, refused 5: 20, refused 6: 20, \
 refused 7: 20, refused 11: 20, refused 12: 20, solved: 5000, $(not_finite 100)"
     "transfer 72 20000 refused 1: 20, refused 2: 20, refused 3: 20, refused 5: 20, refused 6: 20, refused 9: 20, \
@@ -65,7 +95,7 @@ overflow by times in seconds: 30, overflow by sums of times: 40, $(each 'fine nu
 fine number of a later place: 90, fine number of another place: 500, fine number for a solved problem: 14, \
 $(each 'fine number for #: 14' 2 3 {5..11}), old card 0: 600, old card 23: 45, old card 24: 2000, \
 $(each 'old card for #: 75' {101..108}), $(each 'old card for #: 25' 2 3 {5..11}), \
-old card for a solved problem: 2000, old card but for a bit: 140, old and new accepted: 150, longest listing: 1"
+old card for a solved problem: 2000, old card but for a bit: 140, old and new accepted: 150, longest listing: 1, $(past_far_end)"
     "write_deck .problems 500 written: 500, solved: 3000, $(each 'refused #: 50' {101..108}), refused 2: 100, \
 refused 3: 100, refused 5: 50, refused 6: 50, refused 7: 50, refused 8: 50, refused 9: 32, refused 10: 50, refused 11: 50, \
 deck 40: 10, deck 46: 100, cards 0: 4, cards 1: 100, cards 2: 4, cards 255: 3, cards 256: 6, cards between: 100"

@@ -49,8 +49,8 @@ pub fn traits(input: &Input) -> Vec<String> {
     by_direction(traits, t)
 }
 
-/// X, held to RULES, The universal functions 10: C2 and C3 are not refused there, nor before it, since |z|
-/// grows with |x|.
+/// X, held to RULES, The universal functions 10: C2 and C3 are not refused there, nor before it, where |z| is
+/// not larger.
 fn held(orbit: &Orbit) -> f64 {
     let far = far_end(orbit).expect("alpha is finite");
     assert!(

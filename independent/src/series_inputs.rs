@@ -5,8 +5,8 @@ use crate::motion::beside;
 use crate::root_inputs::{edges, not_numbers, powers_of_two, subnormals, SIGN};
 use crate::universal::WIDEST;
 
-/// How many last places are tried on each side of 4 and of -4.
-const PLACES: i64 = 64;
+/// How many last places on each side of 4 and of -4 are tried one by one.
+pub const PLACES: u64 = 64;
 
 /// The gate's inputs, the same list in every run.
 pub fn fixed() -> Vec<u64> {
@@ -38,7 +38,8 @@ pub fn mixed(chance: &mut Chance) -> u64 {
 /// 4, where 60 begins, and the numbers beside it: the next ones, and some further off and further.
 fn about_widest() -> impl Iterator<Item = u64> {
     let further = (0..52).flat_map(|bit| [1 << bit, -(1 << bit)]);
-    (-PLACES..=PLACES)
+    let most = PLACES as i64;
+    (-most..=most)
         .chain(further)
         .map(|places| beside(WIDEST, places).to_bits())
 }

@@ -4,6 +4,7 @@
 
 use crate::bytes::words_from_bytes;
 use crate::conic::{self, Words};
+use crate::series_inputs::PLACES as PLACES_OF_Z;
 use crate::transfer::{placed, Input, Positions, FAR, LONG, OPEN, SHORT};
 use crate::universal::WIDEST;
 use std::cmp::Ordering;
@@ -122,7 +123,8 @@ pub fn range_of(ranges: &[Range], x: f64) -> Option<&'static str> {
 /// large.
 pub fn of_z(z: f64) -> Vec<String> {
     let lines = [WIDEST, -WIDEST].into_iter();
-    let about = lines.filter_map(|line| Some(format!("{} {line}", side_within(64, z, line)?)));
+    let about =
+        lines.filter_map(|line| Some(format!("{} {line}", side_within(PLACES_OF_Z, z, line)?)));
     let sort = match z.classify() {
         FpCategory::Nan => Some("NaN"),
         FpCategory::Infinite => Some("infinite"),
