@@ -12,6 +12,8 @@ use Rattle.sheets.proofs.Lines.{root-most, working-most}
 use Rattle.lambert.specs.Lambert.{answerTo}
 use Rattle.line.specs.declared.Question.{Question}
 use Rattle.line.specs.declared.Question.the-variants as question
+use Rattle.sums.specs.Sums.{sumsAt}
+use Rattle.sums.proofs.Widths.{sums-most}
 use Rattle.line.specs.Line.{widthOf, mostWidth, turned, lineOf, mostLine}
 
 -- the bytes of a record
@@ -21,6 +23,7 @@ width-least question.Kepler = omega arith
 width-least question.Theta = omega arith
 width-least question.Transfer = omega arith
 width-least question.Digits = omega arith
+width-least question.Series = omega arith
 
 pub width-most : (asked : Question) → widthOf asked ≤ mostWidth
 width-most question.Root = omega arith
@@ -28,6 +31,7 @@ width-most question.Kepler = omega arith
 width-most question.Theta = omega arith
 width-most question.Transfer = omega arith
 width-most question.Digits = omega arith
+width-most question.Series = omega arith
 
 -- how long what is written for a record is at most
 pub line-most : (asked : Question) (bytes : List ℕ) → length (lineOf asked bytes) ≤ mostLine asked
@@ -37,3 +41,4 @@ line-most question.Kepler bytes = outcome-most (keplerOf (problemOf bytes))
 line-most question.Theta bytes = outcome-most (turned (problemOf bytes))
 line-most question.Transfer bytes = transfer-most (answerTo (transferOf bytes))
 line-most question.Digits bytes = working-most (numberAt bytes 0)
+line-most question.Series bytes = le-trans (sums-most (sumsAt (numberAt bytes 0))) (omega arith)

@@ -1,8 +1,8 @@
-// What is written for one record by `predict`, `turn`, `transfer`, `roots` and `root_digits`: a line, or
-// for the last the lines of a root's turns. docs/RULES.md, Lines.
+// What is written for one record by `predict`, `turn`, `transfer`, `roots`, `root_digits` and `series`: a
+// line, or for `root_digits` the lines of a root's turns. docs/RULES.md, Lines.
 //
-// A record is what one question takes: eight bytes for a root or its turns, 68 for Kepler, 64 for
-// Theta, 72 for a transfer. Every function here is proved and total, and the crate assumes nothing.
+// A record is what one question takes: eight bytes for a root, its turns or the series, 68 for Kepler, 64
+// for Theta, 72 for a transfer. Every function here is proved and total, and the crate assumes nothing.
 use card::Asked;
 use conic::Outcome;
 use conic::Problem;
@@ -22,6 +22,7 @@ pub enum Question {
     Theta,
     Transfer,
     Digits,
+    Series,
 }
 
 // The bytes of one record.
@@ -34,6 +35,7 @@ pub fn width(asked: Question) -> usize
         Question::Theta => 64,
         Question::Transfer => card::TRANSFER,
         Question::Digits => 8,
+        Question::Series => 8,
     }
 }
 
@@ -49,6 +51,7 @@ pub fn line(asked: Question, s: &[u8], out: &mut [u8], at: usize) -> usize
         Question::Theta => outcomes::put(turned(card::problem(s)), out, at),
         Question::Transfer => transfer_line(card::transfer(s), out, at),
         Question::Digits => sheets::put_working(card::number(s, 0), out, at),
+        Question::Series => sums::put(card::number(s, 0), out, at),
     }
 }
 

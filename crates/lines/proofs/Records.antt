@@ -25,6 +25,7 @@ records-least question.Kepler = omega arith
 records-least question.Theta = omega arith
 records-least question.Transfer = omega arith
 records-least question.Digits = omega arith
+records-least question.Series = omega arith
 
 pub records-most : (asked : Question) → blockRecords asked ≤ mostRecords
 records-most question.Root = omega arith
@@ -32,6 +33,7 @@ records-most question.Kepler = omega arith
 records-most question.Theta = omega arith
 records-most question.Transfer = omega arith
 records-most question.Digits = omega arith
+records-most question.Series = omega arith
 
 enough-room : (asked : Question) → blockRecords asked * mostLine asked + 6 ≤ mostText
 enough-room question.Root = omega arith
@@ -39,6 +41,7 @@ enough-room question.Kepler = omega arith
 enough-room question.Theta = omega arith
 enough-room question.Transfer = omega arith
 enough-room question.Digits = omega arith
+enough-room question.Series = omega arith
 
 -- the least and the most bytes that a block has
 block-least : (asked : Question) → 8 ≤ blockBytes asked

@@ -32,6 +32,7 @@ blockRecords question.Kepler = mostRecords
 blockRecords question.Theta = mostRecords
 blockRecords question.Transfer = mostRecords
 blockRecords question.Digits = 1
+blockRecords question.Series = mostRecords
 
 abbrev pub blockBytes : Question → ℕ
 blockBytes asked = blockRecords asked * widthOf asked

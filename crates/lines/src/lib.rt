@@ -1,5 +1,5 @@
 // Records in, a line for each out, or the lines of its turns: what `predict`, `turn`, `transfer`,
-// `roots` and `root_digits` write. docs/RULES.md, Lines.
+// `roots`, `root_digits` and `series` write. docs/RULES.md, Lines.
 //
 // Every function here is proved, the public ones are total, and the crate assumes nothing.
 use line::Question;
@@ -32,6 +32,7 @@ fn at_a_time(asked: Question) -> usize
         Question::Theta => RECORDS,
         Question::Transfer => RECORDS,
         Question::Digits => 1,
+        Question::Series => RECORDS,
     }
 }
 

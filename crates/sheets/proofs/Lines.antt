@@ -2,6 +2,7 @@
 use mathlib.Core.Path.{_≡_, refl, ap, ap₂, _∙_}
 use mathlib.Core.List.{List, _++_, append-nil}
 use Prim.Native.Nat.{ℕ, zero, suc, _+_, _*_, _%_, _≤_}
+use native.Mathlib.Nat.{le-trans}
 use native.Mathlib.Numerals.{add-one}
 use native.Mathlib.Omega.{arith}
 use lib.Ieee.{Float, binary64}
@@ -14,7 +15,7 @@ use Rattle.root.specs.declared.Sheet.{Sheet}
 use Rattle.root.specs.Said as said
 use Rattle.root.specs.Root.{rootOf}
 use Rattle.root.specs.Paper.{wholeOf, pairOf, trialOf, afterTurns, roundedOf, Shown, sheet, zero-itself, refused, sheetOf}
-use Rattle.sheets.specs.Sheets.{rootLine, turnLine, turnLines, roundedLine, leadingUp, workingLines, mostWorking}
+use Rattle.sheets.specs.Sheets.{refusalLine, rootLine, turnLine, turnLines, roundedLine, leadingUp, workingLines, mostWorking}
 
 -- no turn, and one more
 pub no-turns : (v : ℕ) {at : ℕ} {out : List ℕ} → at ≤ length out → Put out at (turnLines v 0) out at
@@ -52,9 +53,12 @@ turns-most v (suc n) = rw (length-append (turnLines v n) (turnLine (suc n) (afte
 rounded-most : (s : Sheet) → length (roundedLine s) ≤ 50
 rounded-most s = simp length-append (omega (arith, length-whole (s .digits), length-whole (roundedOf (s .digits))))
 
+pub refusal-most : (k : ℕ) → length (refusalLine k) ≤ 19
+refusal-most k = simp length-append (omega (arith, length-count k))
+
 pub root-most : (s : said.Said) → length (rootLine s) ≤ 22
 root-most (said.root x) = simp (length-append, length-number x) (omega arith)
-root-most (said.refused k) = simp length-append (omega (arith, length-count k))
+root-most (said.refused k) = le-trans (refusal-most k) (omega arith)
 
 leading-most : (v : ℕ) (last : Shown) → length (leadingUp v last) ≤ 5990
 leading-most v (sheet s) = rw (append-nil (roundedLine s), length-append (turnLines v 54) (roundedLine s)) (omega (arith, turns-most v 54, rounded-most s))

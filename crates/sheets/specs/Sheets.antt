@@ -11,10 +11,14 @@ use Rattle.root.specs.Said as said
 use Rattle.root.specs.Root.{rootOf}
 use Rattle.root.specs.Paper.{wholeOf, pairOf, trialOf, afterTurns, roundedOf, Shown, sheet, zero-itself, refused, sheetOf}
 
--- Lines 2: `root WORD` or `refused NUMBER`
+-- Lines 2 and 7: `refused NUMBER`
+abbrev pub refusalLine : (k : ℕ) → List ℕ
+refusalLine k = joined (text "refused" ∷ count k ∷ text "\n" ∷ [])
+
+-- Lines 2: `root WORD`, or a refusal
 abbrev pub rootLine : said.Said → List ℕ
 rootLine (said.root x) = joined (text "root" ∷ number x ∷ text "\n" ∷ [])
-rootLine (said.refused k) = joined (text "refused" ∷ count k ∷ text "\n" ∷ [])
+rootLine (said.refused k) = refusalLine k
 
 -- Lines 6: `turn N PAIR TRIAL DIGIT REMAINDER`, from the sheets before and after
 abbrev pub turnLine : (n : ℕ) (before after : Sheet) → List ℕ

@@ -12,7 +12,7 @@ ghost use Rattle.exact.specs.Numbers.{steps};
 ghost use Rattle.pieces.specs.Pieces.{putIn, endIn, Put};
 ghost use Rattle.root.specs.Said.{said};
 ghost use Rattle.root.specs.Paper.{wholeOf, afterTurns, shown, sheetOf};
-ghost use Rattle.sheets.specs.Sheets.{Worked, rootLine, turnLine, turnLines, roundedLine, leadingUp, workingLines};
+ghost use Rattle.sheets.specs.Sheets.{Worked, refusalLine, rootLine, turnLine, turnLines, roundedLine, leadingUp, workingLines};
 
 // The weight of the next pair among the pairs to come.
 const PAIR: u64 = 0x10_0000_0000_0000;
@@ -28,12 +28,18 @@ pub fn put_root(answer: Answer, out: &mut [u8], at: usize) -> usize
             end = text::number(out, end, x);
             pieces::put(out, end, b"\n")
         }
-        Answer::Refused(why) => {
-            let mut end = pieces::put(out, at, b"refused");
-            end = text::count(out, end, why.number());
-            pieces::put(out, end, b"\n")
-        }
+        Answer::Refused(why) => put_refusal(why.number(), out, at),
     }
+}
+
+// `refused NUMBER`, likewise.
+pub fn put_refusal(number: u32, out: &mut [u8], at: usize) -> usize
+    ensures { λ r. ⌜ r ≡ endIn (now (out .entry)) at (refusalLine number) ⌝ }
+    ensures { λ r. ⌜ now (out .exit) ≡ putIn (now (out .entry)) at (refusalLine number) ⌝ }
+{
+    let mut end = pieces::put(out, at, b"refused");
+    end = text::count(out, end, number);
+    pieces::put(out, end, b"\n")
 }
 
 // The turns of x, how the last digit rounds, and the line of the root, likewise; for zero, and for

@@ -9,6 +9,7 @@ use Rattle.lambert.specs.Lambert.{answerTo}
 use Rattle.line.specs.declared.Question.the-variants as question
 use Rattle.outcomes.specs.Outcomes.{outcomeLine, transferLine}
 use Rattle.sheets.specs.Sheets.{rootLine, workingLines}
+use Rattle.sums.specs.Sums.{sumsAt, sumsLine}
 use Rattle.line.specs.Line.{lineOf, turned}
 use Rattle.pieces.specs.Pieces.{Put}
 use Rattle.pieces.proofs.Puts.{renamed, wrote, both}
@@ -36,6 +37,10 @@ transfer-of bytes = refl
 digits-of : (bytes : List ℕ) → lineOf question.Digits bytes ≡ workingLines (numberAt bytes 0)
 unfolding lineOf
 digits-of bytes = refl
+
+series-of : (bytes : List ℕ) → lineOf question.Series bytes ≡ sumsLine (sumsAt (numberAt bytes 0))
+unfolding lineOf
+series-of bytes = refl
 
 -- the line of an answer s to the question p that was read, which is what is asked
 as-asked : {Q A : Type 0} (line : A → List ℕ) (answer : Q → A) {text before after : List ℕ} {at end : ℕ} {p q : Q} {s : A}
@@ -72,6 +77,12 @@ returns-5 c =
     let read = line .before .before in
     rw (read .before .enum-told5 .given .1) (both (as-asked workingLines (λ x. x) (digits-of _) (read .number2 .ensures) refl (wrote (line .put-working .ensures))))
 
+returns-6 : tie.Need-returns-6
+returns-6 c =
+    let line = c .before .before in
+    let read = line .before .before in
+    rw (read .before .enum-told6 .given .1) (both (as-asked (λ x. sumsLine (sumsAt x)) (λ x. x) (series-of _) (read .number3 .ensures) refl (wrote (line .put3 .ensures))))
+
 pub line-spec : {M : Type 1} → statement M
 line-spec =
     tie.close
@@ -95,6 +106,9 @@ line-spec =
     (λ c κs. search needs)
     (λ c κs. search needs)
     (λ c. search needs)
+    (λ c κs. search needs)
+    (λ c κs. search needs)
+    (λ c. search needs)
     returns
     (λ c. search needs)
     returns-2
@@ -103,4 +117,6 @@ line-spec =
     (λ c. search needs)
     returns-4
     (λ c. search needs)
-    returns-5)
+    returns-5
+    (λ c. search needs)
+    returns-6)

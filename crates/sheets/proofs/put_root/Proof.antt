@@ -14,14 +14,8 @@ returns c =
 returns-2 : tie.Need-returns-2
 returns-2 c =
     let at1 = c .before .before in
-    let at2 = at1 .before .before .before .before .before in
-    let at3 = at2 .before in
-    let at4 = at3 .before .before .before .before in
-    let at5 = at4 .before .before .before .before in
-    rw (at5 .answer2 .given .1, ← at3 .number2 .ensures)
-    (both (puts (wrote (at4 .put3 .ensures))
-    (puts (wrote (at2 .count .ensures))
-    (last (wrote (at1 .put4 .ensures))))))
+    let at2 = at1 .before .before in
+    rw (at2 .before .before .answer2 .given .1, ← at2 .number2 .ensures) (both (wrote (at1 .put-refusal .ensures)))
 
 pub put-root-spec : {M : Type 1} → statement M
 put-root-spec =
@@ -34,11 +28,7 @@ put-root-spec =
     (λ c. search needs)
     (λ c κs. search needs)
     (λ c. search needs)
-    (λ c. search needs)
     (λ c κs. search needs)
-    (λ c κs. search needs)
-    (λ c κs. search needs)
-    (λ c. search needs)
     (λ c κs. search needs)
     (λ c. search needs)
     returns
