@@ -48,12 +48,12 @@ static int scale(const Problem *p, Scaled *o)
 static int far_end(double alpha, double *X)
 {
     double k;
-    *X = 64;
+    *X = 63.5;
     if (absolute(alpha) <= 1 / 64.0)
         return 0;
     if (!root(absolute(alpha), &k))
         return 14;
-    *X = 8 / k;
+    *X = 7.9375 / k;
     return 0;
 }
 

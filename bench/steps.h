@@ -142,9 +142,14 @@ static Functions doubled(double alpha, Functions u)
     return (Functions){ 1 - alpha * u2, 2 * u.u0 * u.u1, u2, 2 * u.u3 + 2 * (u.u1 * u.u2) };
 }
 
+/* Beyond |z| = 4 the series are refused: then the four are NaNs, and so is a time that is made of them. */
 static Functions universal(double x, double alpha)
 {
     double y = x / 4, h = y * y, z = alpha * h;
+    if (!(absolute(z) <= 4)) {
+        double nan = __builtin_nan("");
+        return (Functions){ nan, nan, nan, nan };
+    }
     double u2 = h * horner(EVEN, z);
     double u3 = (y * h) * horner(ODD, z);
     Functions u = { 1 - alpha * u2, y - alpha * u3, u2, u3 };
