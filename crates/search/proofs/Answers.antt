@@ -2,8 +2,9 @@
 -- (`refused-before`, `counts`). The number of a refusal is 9 or 10 where it names a bracket, and else one of the tests', of the finding's, or 6
 -- (`refusal-numbered`). From a fair bracket, solved means near, finite and in the starting bracket, with what is found there (`solved-means`).
 -- A bracket that is named lies in the starting one; the times of its ends are finite, the lower one at most the wanted time and the upper one
--- at least (`bracket-means`); the times kept beside the ends are theirs (`times-kept`).
-use mathlib.Core.Path.{_≡_, refl, ap, subst}
+-- at least (`bracket-means`); the times kept beside the ends are theirs (`times-kept`). Another time and finding, which are the same in the
+-- starting bracket, have the same answer (`same-answer`).
+use mathlib.Core.Path.{_≡_, refl, ap, _∙_, subst}
 use mathlib.Core.Logic.{_⊎_, inl, inr}
 use mathlib.Core.Bool.{true, false}
 use Prim.Native.Nat.{ℕ, _≤_}
@@ -21,7 +22,7 @@ use Rattle.search.specs.Search.{searchOf}
 use Rattle.search.specs.Answers.{Answer, solved, refused, refusedWithBracket, withFound, answerOf, answerFrom}
 use Rattle.search.proofs.Hunt.{Names}
 use Rattle.search.proofs.Count as count
-use Rattle.search.proofs.Laws.{In, Starts, solved-near, solved-in, named-kept, named-ends, named-finite}
+use Rattle.search.proofs.Laws.{In, Starts, solved-near, solved-in, named-kept, named-ends, named-finite, same-search}
 
 -- a bracket that a search may start from: the first guess lies in it, its ends' times are finite, the wanted time is not outside them, and the
 -- times kept for the ends are theirs
@@ -202,3 +203,24 @@ module _ {S A : Type 0} (time : S → Float → Float) (wanted : S → Float) (f
 
       pub bracket-means : (k n : ℕ) (lo hi : Float) → answer ≡ refusedWithBracket k n lo hi → IsNamed time wanted limit e k n lo hi
       bracket-means k n lo hi s = subst (IfNamed (IsNamed time wanted limit e)) s (by-origin (IfNamed (IsNamed time wanted limit e)) (λ k h. tt) end-names)
+
+      module _ (otherTime : S → Float → Float) (otherFind : S → Float → Checked A) where
+        -- the same time and finding at x
+        abbrev pub Same : S → Float → Type 0
+        Same o x = (time o x ≡ otherTime o x) × (find o x ≡ otherFind o x)
+
+        pub same-answer : ((o : S) (b : Bracket) → e ≡ pass (o, b) → (x : Float) → In b x → Same o x) → answer ≡ answerFrom otherTime wanted otherFind limit e
+        same-answer same = go e refl
+          where
+            ending : (o : S) (b : Bracket) → e ≡ pass (o, b) → (n : end.Ending) → searchOf (time o) (wanted o) limit b ≡ n → answerOf (find o) n ≡ answerOf (otherFind o) n
+            ending o b h (end.solved x n) s = let f = fair o b h in ap (withFound x n) (same o b h x (solved-in (time o) (wanted o) limit b (f .starts) (f .lo-time) (f .hi-time) s) .1)
+            ending o b h (end.closed new n) s = refl
+            ending o b h (end.spent new n) s = refl
+            ending o b h (end.lost n) s = refl
+
+            go : (m : Checked (S × Bracket)) → e ≡ m → answerFrom time wanted find limit m ≡ answerFrom otherTime wanted otherFind limit m
+            go (pass (o, b)) h =
+                let f = fair o b h in
+                ending o b h (searchOf (time o) (wanted o) limit b) refl
+                ∙ ap (answerOf (otherFind o)) (same-search (time o) (wanted o) limit b (f .starts) (f .lo-time) (f .hi-time) (otherTime o) (λ x i. same o b h x i .0))
+            go (refuse k) h = refl

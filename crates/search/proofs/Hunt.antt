@@ -1,6 +1,6 @@
 -- The search by its turns. A guess ends the search or hands on a narrowed bracket with the next guess (`guessed-by`), and the next guess is
 -- a number of the format strictly inside that bracket (`next-inside`). What is so passed on holds at the end (`search-ends`): every law on
--- where a search ends is an instance of this one induction.
+-- where a search ends is an instance of this one induction. And where two times are the same at each guess, the search is (`search-same`).
 use mathlib.Core.Path.{_≡_, refl, subst}
 use mathlib.Core.Logic.{_⊎_, inl, inr}
 use mathlib.Core.Bool.{Bool, true, false, cond}
@@ -115,6 +115,36 @@ module _ {time : Float → Float} {t : Float} {I : Bracket → Float → Type 0}
   pub search-ends : (limit : ℕ) (b : Bracket) → I b (firstGuess b t) → Ends time t I J (searchOf time t limit b)
   unfolding searchOf
   search-ends limit b i = hunt-ends (limit - 1) 0 b (firstGuess b t) i
+
+  -- another time, which is the same at each guess
+  module _ (other : Float → Float) (same : (b : Bracket) (x : Float) → I b x → time x ≡ other x) where
+    turn-same : (n : ℕ) (b : Bracket) (x : Float) (on also : Bracket → Try → Ending) → I b x → (J (narrowedBy b (pointAt time x) t) → turned time t n b x on ≡ turned time t n b x also)
+        → guessed time t n b x on ≡ guessed other t n b x also
+    turn-same n b x on also i h = rw (← same b x i) (go (isFinite (time x)) (isNear (time x) t) refl)
+      where
+        go : (u v : Bool) → isFinite (time x) ≡ u → cond u (cond v (solved x n) (turned time t n b x on)) (lost n) ≡ cond u (cond v (solved x n) (turned time t n b x also)) (lost n)
+        go true true f = refl
+        go true false f = h (narrowed-holds b x i f)
+        go false v f = refl
+
+    goOn-same : (again also : Bracket → Float → Ending) → ((b : Bracket) (x : Float) → I b x → again b x ≡ also b x)
+        → (n : ℕ) (b : Bracket) (y : Try) → J b → OfGuess (Inside b) y → goOn again n b y ≡ goOn also n b y
+    goOn-same again also h n b noGuess j w = refl
+    goOn-same again also h n b (guess x) j w = h b x (p .next b x j (w .0) (w .1))
+
+    hunt-same : (left n : ℕ) (b : Bracket) (x : Float) → I b x → hunt time t left n b x ≡ hunt other t left n b x
+    unfolding hunt
+    hunt-same zero n b x i = turn-same (n + 1) b x (λ new y. spent new (n + 1)) (λ new y. spent new (n + 1)) i (λ j. refl)
+    hunt-same (suc left) n b x i =
+        let g = pointAt time x in
+        let again = hunt time t left (n + 1) in
+        let also = hunt other t left (n + 1) in
+        turn-same (n + 1) b x (goOn again (n + 1)) (goOn also (n + 1)) i
+        (λ j. goOn-same again also (hunt-same left (n + 1)) (n + 1) (narrowedBy b g t) (nextGuess b g t) j (next-inside b g t))
+
+    pub search-same : (limit : ℕ) (b : Bracket) → I b (firstGuess b t) → searchOf time t limit b ≡ searchOf other t limit b
+    unfolding searchOf
+    search-same limit b i = hunt-same (limit - 1) 0 b (firstGuess b t) i
 
   -- of a solved search, and of one that names a bracket
   pub solved-has : (limit : ℕ) (b : Bracket) → I b (firstGuess b t) → {x : Float} {n : ℕ} → searchOf time t limit b ≡ solved x n

@@ -2,7 +2,8 @@
 -- and every guess of a finite time have, the ends of a named bracket have (`named-ends`), as that their times are finite (`named-finite`). The
 -- bracket law: from a starting bracket whose
 -- ends' times have the wanted time between them, a solved search ends in that bracket (`solved-in`), and a named bracket lies in it, in
--- order, with the wanted time still between (`named-kept`). The invariant: the bracket is so, and the guess lies in it.
+-- order, with the wanted time still between (`named-kept`); and another time, which is the same in it, has the same search (`same-search`).
+-- The invariant: the bracket is so, and the guess lies in it.
 use mathlib.Core.Path.{_≡_, refl}
 use mathlib.Core.Logic.{_↔_}
 use mathlib.Core.Bool.{Bool, true, false, cond}
@@ -20,7 +21,7 @@ use Rattle.search.specs.declared.Point.{Point}
 use Rattle.search.specs.declared.Bracket.{Bracket}
 use Rattle.search.specs.Said.{solved}
 use Rattle.search.specs.Search.{within, middleOf, firstGuess, searchOf}
-use Rattle.search.proofs.Hunt.{pointAt, middle-fits, Passed, Names, solved-has, named-has}
+use Rattle.search.proofs.Hunt.{pointAt, middle-fits, Passed, Names, search-same, solved-has, named-has}
 
 -- ---- the ends of a named bracket
 
@@ -124,6 +125,9 @@ module _ (time : Float → Float) (t : Float) (limit : ℕ) (b₀ : Bracket) (s 
 
   pub named-kept : (b : Bracket) → Names (searchOf time t limit b₀) b → Kept time t b₀ b
   named-kept b w = named-has (passes time t b₀ s) limit b₀ (start-kept time t b₀ s lo hi, s .first-in) b w
+
+  pub same-search : (other : Float → Float) → ((x : Float) → In b₀ x → time x ≡ other x) → searchOf time t limit b₀ ≡ searchOf other t limit b₀
+  same-search other same = search-same (passes time t b₀ s) other (λ b x k. same x (in-start time t b₀ s b x k)) limit b₀ (start-kept time t b₀ s lo hi, s .first-in)
 
 -- ---- the two starting brackets
 
