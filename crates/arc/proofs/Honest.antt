@@ -4,43 +4,17 @@
 use mathlib.Core.Path.{_≡_, refl, sym, ap, _∙_}
 use mathlib.Core.Logic.{_⊎_, inl, inr}
 use mathlib.Core.Bool.{true, true≢false}
-use lib.Ieee.{Float, nan, inf, fin, add, sub, mul, div}
+use lib.Ieee.{Float, nan}
 use Rattle.exact.specs.Numbers.{_⊕_, _⊖_, _⊗_, _⊘_, one, isFinite}
+use Rattle.exact.proofs.NotANumber.{plus-nan, minus-nan, times-nan, over-nan}
 use Rattle.root.specs.Said as root
 use Rattle.root.specs.Root.{rootOf}
 use Rattle.root.proofs.Cases.{refuses-not-finite}
-use Rattle.rows.specs.Rows.{Checked, pass, refuse}
 use Rattle.universal.specs.declared.Functions.{Functions}
 use Rattle.universal.specs.Functions.{functionsAt, orNans}
-use Rattle.universal.proofs.Worked.{Works, passed-works}
+use Rattle.universal.proofs.Worked.{Works, works-or-nans}
 use Rattle.arc.specs.declared.Scaled.{Scaled}
 use Rattle.arc.specs.Arc.{orNan, rootOrNan, shapeAt, timeAt}
-
--- ---- a NaN goes through
-
-plus-nan : (x : Float) → x ⊕ nan ≡ nan
-unfolding add
-plus-nan nan = refl
-plus-nan (inf s) = refl
-plus-nan (fin s m e) = refl
-
-minus-nan : (x : Float) → x ⊖ nan ≡ nan
-unfolding sub add
-minus-nan nan = refl
-minus-nan (inf s) = refl
-minus-nan (fin s m e) = refl
-
-times-nan : (x : Float) → x ⊗ nan ≡ nan
-unfolding mul
-times-nan nan = refl
-times-nan (inf s) = refl
-times-nan (fin s m e) = refl
-
-over-nan : (x : Float) → x ⊘ nan ≡ nan
-unfolding div
-over-nan nan = refl
-over-nan (inf s) = refl
-over-nan (fin s m e) = refl
 
 -- ---- both roots
 
@@ -85,8 +59,4 @@ module _ (o : Scaled) (z : Float) (f : isFinite (timeAt o z) ≡ true) where
   -- and is none of the NaNs that stand for refused functions
   pub functions-given : Works one z
   unfolding rootOrNan
-  functions-given = go (functionsAt one z) refl
-    where
-      go : (c : Checked Functions) → functionsAt one z ≡ c → Works one z
-      go (pass v) e = e ∙ ap pass (sym (passed-works one z e .1))
-      go (refuse k) e = no-nan-root (ap (λ (c : Checked Functions). rootOrNan (orNans c .u2)) e ∙ ap orNan (refuses-not-finite nan refl))
+  functions-given = elim (works-or-nans one z) [ inl w ↦ w | inr e ↦ no-nan-root (ap (λ (v : Functions). rootOrNan (v .u2)) e ∙ ap orNan (refuses-not-finite nan refl)) ]

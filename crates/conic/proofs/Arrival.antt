@@ -1,6 +1,6 @@
 -- The arrival at x: what a state that passes its tests is, both ways. And the numbers with which it can refuse: 11 and 6 (`arrival-refuses`:
 -- whatever these have, each refusal's number has).
-use mathlib.Core.Path.{_≡_, refl, sym, ap, _∙_, subst}
+use mathlib.Core.Path.{_≡_, refl, sym, subst}
 use mathlib.Core.Logic.{_↔_}
 use mathlib.Core.Bool.{true, _&&_}
 use Prim.Native.Nat.{ℕ}
@@ -12,7 +12,7 @@ use Rattle.conic.specs.declared.Scaled.{Scaled}
 use Rattle.vectors.specs.Vectors.{allFinite}
 use Rattle.universal.specs.declared.Functions.{Functions}
 use Rattle.universal.specs.Functions.{functionsAt, workedAt, ratioOf}
-use Rattle.universal.proofs.Worked.{Works, passed-works}
+use Rattle.universal.proofs.Worked.{Works, passed-is, passed-works}
 use Rattle.conic.specs.TimeAndRatio.{ratioAt}
 use Rattle.conic.specs.Unfolding.{leastRatio, arrivalOf, stateAt, arrivalAt}
 
@@ -33,12 +33,12 @@ arrives o x state = (there, λ a. rw (a .works, a .allowed, a .state-is, a .fini
     there h =
         let row = rows-passed (renumbered 6 (functionsAt x (o .alpha))) by h in
         let given = renumbered-passed 6 (functionsAt x (o .alpha)) (row .1) in
-        let worked = sym (passed-works x (o .alpha) given .1) in
+        let worked = sym (passed-is x (o .alpha) given) in
         let all-finite = allFinite (stateAt o x .r) && allFinite (stateAt o x .v) in
         let first = test-passed (le leastRatio (ratioAt o x)) 11 (must all-finite 6 (pass (stateAt o x))) (subst (λ (u : Functions). by u ≡ pass state) worked (row .2)) in
         let second = test-passed all-finite 6 (pass (stateAt o x)) (first .1) in
         let is : stateAt o x ≡ state = pass-once (second .1) in
-        record { works = given ∙ ap pass worked; allowed = first .0; finite = subst (λ (a : State). allFinite (a .r) && allFinite (a .v) ≡ true) is (second .0); state-is = is }
+        record { works = passed-works x (o .alpha) given; allowed = first .0; finite = subst (λ (a : State). allFinite (a .r) && allFinite (a .v) ≡ true) is (second .0); state-is = is }
 
 -- ---- the numbers
 

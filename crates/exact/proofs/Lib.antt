@@ -12,4 +12,5 @@ pub mod Words
 pub mod Tolerance
 pub mod Middle
 pub mod OneStep
+pub mod NotANumber
 pub mod Fixed

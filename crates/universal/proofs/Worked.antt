@@ -1,13 +1,14 @@
 -- The functions are refused where z is not in the series' range, and else they are what is worked at z (`by-range`). So where they pass they are
--- that, and z is in the range (`works`, `passed-works`).
-use mathlib.Core.Path.{_≡_, refl, sym, _∙_}
+-- that, and z is in the range (`works`, `passed-works`, `passed-in-range`); and where not, NaNs stand for them in a time (`works-or-nans`).
+use mathlib.Core.Path.{_≡_, refl, sym, ap, _∙_}
+use mathlib.Core.Logic.{_⊎_, inl, inr}
 use mathlib.Core.Bool.{Bool, true, false}
 use lib.Ieee.{Float}
-use Rattle.rows.specs.Rows.{Checked, pass, must, onward}
+use Rattle.rows.specs.Rows.{Checked, pass, refuse, must, onward}
 use Rattle.rows.proofs.Laws.{pass-once, test-passed}
 use Rattle.universal.specs.declared.Functions.{Functions}
 use Rattle.universal.specs.Series.{coefficients, worked, inRange, outOfRange, seriesOf}
-use Rattle.universal.specs.Functions.{argumentAt, quartered, doubledTwice, functionsAt, workedAt}
+use Rattle.universal.specs.Functions.{argumentAt, quartered, doubledTwice, functionsAt, workedAt, nans, orNans}
 
 -- the functions at x are not refused
 abbrev pub Works : (x alpha : Float) → Type 0
@@ -32,5 +33,21 @@ module _ (x alpha : Float) where
   unfolding must
   works r = by-range ∙ rw r refl
 
-  pub passed-works : {u : Functions} → functionsAt x alpha ≡ pass u → (inRange z ≡ true) × (workedAt x alpha ≡ u)
-  passed-works {u} e = let t = test-passed (inRange z) outOfRange (pass (workedAt x alpha)) (sym by-range ∙ e) in (t .0, pass-once (t .1))
+  row-passed : {u : Functions} → functionsAt x alpha ≡ pass u → (inRange z ≡ true) × (_≡_ {A = Checked Functions} (pass (workedAt x alpha)) (pass u))
+  row-passed {u} e = test-passed (inRange z) outOfRange (pass (workedAt x alpha)) (sym by-range ∙ e)
+
+  pub passed-in-range : {u : Functions} → functionsAt x alpha ≡ pass u → inRange z ≡ true
+  passed-in-range e = row-passed e .0
+
+  pub passed-is : {u : Functions} → functionsAt x alpha ≡ pass u → workedAt x alpha ≡ u
+  passed-is e = pass-once (row-passed e .1)
+
+  pub passed-works : {u : Functions} → functionsAt x alpha ≡ pass u → Works x alpha
+  passed-works e = e ∙ sym (row-passed e .1)
+
+  pub works-or-nans : Works x alpha ⊎ (orNans (functionsAt x alpha) ≡ nans)
+  works-or-nans = go (functionsAt x alpha) refl
+    where
+      go : (c : Checked Functions) → functionsAt x alpha ≡ c → Works x alpha ⊎ (orNans (functionsAt x alpha) ≡ nans)
+      go (pass u) e = inl (passed-works e)
+      go (refuse k) e = inr (ap orNans e)

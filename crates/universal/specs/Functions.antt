@@ -43,9 +43,12 @@ workedAt x alpha =
     doubledTwice alpha (quartered x alpha (worked (coefficients 2) z) (worked (coefficients 3) z))
 
 -- 9: functions that are refused stand in a time as NaNs, so that it is not finite
+abbrev pub nans : Functions
+nans = record { u0 = nan; u1 = nan; u2 = nan; u3 = nan }
+
 abbrev pub orNans : Checked Functions → Functions
 orNans (pass u) = u
-orNans (refuse k) = record { u0 = nan; u1 = nan; u2 = nan; u3 = nan }
+orNans (refuse k) = nans
 
 -- 7: T(x) = U1 + s*U2 + U3
 abbrev pub timeOf : (s : Float) → Functions → Float
