@@ -16,7 +16,7 @@ use Rattle.arc.proofs.Departing.{time-fits}
 use Rattle.arc_entry.specs.ArcEntry.{thirtySix, startingBracket}
 use Rattle.arc_entry.proofs.Passed.{Entered}
 
-upper-number : Number binary64 thirtySix
+pub upper-number : Number binary64 thirtySix
 unfolding ofBits
 upper-number = (ofBits-fits binary64 0x4042_0000_0000_0000, tt)
 

@@ -19,7 +19,7 @@ use Rattle.entry.proofs.Passed.{Numbers, Entered}
 use Rattle.entry.proofs.AtZero.{time-at-zero, not-below-zero-time, not-above-zero-time}
 use Rattle.entry.proofs.FarEnd.{IsFarEnd, far-end-is}
 
-module _ (o : Scaled) (n : Numbers o) (X : Float) (f : IsFarEnd X) where
+module _ (o : Scaled) (n : Numbers o) (X : Float) (f : IsFarEnd (o .alpha) X) where
   zero-kept : nought ≡ timeAt o nought
   zero-kept = sym (time-at-zero o (n .s-number) (n .alpha-number))
 
@@ -55,7 +55,7 @@ module _ (o : Scaled) (n : Numbers o) (X : Float) (f : IsFarEnd X) where
 pub fair : (p : Problem) (o : Scaled) (b : Bracket) → Entered p o b → Fair (timeAt o) (o .t) b
 fair p o b e = subst (Fair (timeAt o) (o .t)) (sym (e .bracket-is)) (go (le nought (o .t)) refl)
   where
-    far-is : IsFarEnd (e .far)
+    far-is : IsFarEnd (o .alpha) (e .far)
     far-is = far-end-is (o .alpha) (e .far) (e .numbers .alpha-number) (e .far-is)
 
     go : (u : Bool) → le nought (o .t) ≡ u → Fair (timeAt o) (o .t) (startingBracket (o .t) (pointAt (timeAt o) (cond (le nought (o .t)) (e .far) (neg (e .far)))))

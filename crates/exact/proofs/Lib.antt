@@ -7,7 +7,10 @@ pub mod Compare
 pub mod Arithmetic
 pub mod Signs
 pub mod Zero
+pub mod Constants
 pub mod Most
+pub mod Coarse
+pub mod Sizes
 pub mod Words
 pub mod Tolerance
 pub mod Middle

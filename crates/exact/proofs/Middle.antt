@@ -9,21 +9,17 @@ use lib.Dec.{T, ltb, lit<, nltb→le}
 use lib.Pow.{pow-pos}
 use lib.Ieee.{Float, nan, inf, fin, binary64, low, round, neg, sub, le, ofBits}
 use lib.Ieee.Fits.{round-fits}
-use lib.Ieee.Bits.{ofBits-fits}
 use lib.Ieee.Scale.{overflow}
 use Rattle.exact.specs.Numbers.{nought, Number, two, middle, isMinus, steps, _⊕_, _⊖_, _⊘_}
 use Rattle.exact.proofs.Steps.{steps-lt}
 use Rattle.exact.proofs.Rounding.{rounded, rounded-le, round-steps}
 use Rattle.exact.proofs.Order.{along, place, le-place, plus-le}
 use Rattle.exact.proofs.Zero.{nought-number, nought-steps, nought-plus, zero-plus, less-zero}
+use Rattle.exact.proofs.Constants.{two-number}
 use Rattle.exact.proofs.Most.{AtMost, steps-held, div-most}
 use Rattle.exact.proofs.Arithmetic.{sum-unlike, neg-number, add-steps}
 
 -- ---- half of a number
-
-two-number : Number binary64 two
-unfolding ofBits
-two-number = (ofBits-fits binary64 0x4000_0000_0000_0000, tt)
 
 two-plus : isMinus two ≡ false
 unfolding ofBits

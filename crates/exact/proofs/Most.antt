@@ -10,7 +10,7 @@ use lib.Pow.{pow-pos}
 use lib.Ieee.{Float, binary64, low, fits, round, ofInt}
 use lib.Ieee.Fits.{round-fits}
 use lib.Ieee.Scale.{overflow}
-use Rattle.exact.specs.Numbers.{steps, _⊕_, _⊗_, _⊘_}
+use Rattle.exact.specs.Numbers.{steps, inSteps, _⊕_, _⊗_, _⊘_}
 use Rattle.exact.proofs.Steps.{Moved, moved, steps-lt}
 use Rattle.exact.proofs.Rounding.{few-le, few-exact, round-steps}
 use Rattle.exact.proofs.Arithmetic.{sum-alike, add-steps, mul-steps, div-steps}
@@ -29,6 +29,11 @@ Held n = Moved binary64 n × (n < overflow binary64)
 pub steps-held : (x : Float) → T (fits binary64 x) → Held (steps binary64 x)
 steps-held x w = (moved binary64 x w, steps-lt binary64 x w)
 
+-- and as a whole number below 2^53 is
+pub whole-held : (n : ℕ) → n < 2 ^ 53 → Held (n * inSteps 0)
+unfolding inSteps
+whole-held n h = (record { significand = n; places = low binary64; few = h; is = refl }, lt-trans (mul-lt-mul-of-pos-right h (pow-pos (low binary64))) (lit< tt))
+
 round-most : (a c n : ℕ) → 0 < c → Held n → a * 2 ^ low binary64 ≤ n * c → AtMost n (round binary64 false a c)
 round-most a c n C h l =
     let m = few-le binary64 a c n C (h .0) l in
@@ -37,12 +42,11 @@ round-most a c n C h l =
 
 -- in binary64 a whole number below 2^53 is itself
 pub whole-steps : (n : ℕ) → n < 2 ^ 53 → Plus (ofInt binary64 (pos n)) × (steps binary64 (ofInt binary64 (pos n)) ≡ n * 2 ^ low binary64)
-unfolding ofInt
+unfolding ofInt inSteps
 whole-steps n h =
-    let few : Moved binary64 (n * 2 ^ low binary64) = record { significand = n; places = low binary64; few = h; is = refl } in
-    let is = few-exact binary64 n 1 (n * 2 ^ low binary64) (lit< tt) few (sym (mul-one (n * 2 ^ low binary64))) in
-    let below : n * 2 ^ low binary64 < overflow binary64 = lt-trans (mul-lt-mul-of-pos-right h (pow-pos (low binary64))) (lit< tt) in
-    let v = round-steps binary64 false n 1 (rw is below) in
+    let held = whole-held n h in
+    let is = few-exact binary64 n 1 (n * 2 ^ low binary64) (lit< tt) (held .0) (sym (mul-one (n * 2 ^ low binary64))) in
+    let v = round-steps binary64 false n 1 (rw is (held .1)) in
     (((round-fits binary64 false n 1, v .2), v .1), v .0 ∙ is)
 
 module _ (x y : Float) (p : Plus x) (q : Plus y) (n : ℕ) (h : Held n) where

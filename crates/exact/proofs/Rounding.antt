@@ -3,10 +3,10 @@
 -- The one argument: rounded steps are the nearest multiple of a power of two; a number of the format that is no such multiple is below
 -- one that is, which lies between it and the fraction.
 use mathlib.Core.Path.{_≡_, refl, sym, ap, _∙_, subst}
-use mathlib.Core.Logic.{_⊎_, inl, inr}
+use mathlib.Core.Logic.{_⊎_, inl, inr, ⊎-elim}
 use mathlib.Core.Bool.{Bool, true, false, not, cond}
 use Prim.Native.Nat.{ℕ, zero, suc, _+_, _-_, _*_, _/_, _%_, _^_, _≤_, _<_, zero-le, compare, Ordering, Ordering·lt, Ordering·eq, Ordering·gt}
-use native.Mathlib.Nat.{le-trans, le-of-eq, le-of-lt, le-antisymm, lt-of-le-of-lt, sub-add-cancel, add-sub-cancel-left, pow-succ', le-of-mul-le-mul-right, mul-assoc, mul-comm, mul-le-mul-right, mul-pos, mod-lt, div-add-mod', le-div-iff-mul-le}
+use native.Mathlib.Nat.{le-trans, le-of-eq, le-of-lt, le-antisymm, lt-of-le-of-lt, sub-add-cancel, add-sub-cancel-left, pow-succ', le-of-mul-le-mul-right, mul-assoc, mul-comm, mul-le-mul-right, mul-pos, mod-lt, div-add-mod', le-div-iff-mul-le, one-mul, le-add-left, le-add-right, eq-zero-or-pos}
 use native.Mathlib.Omega.{arith}
 use lib.Dec.{T, isLe, isEq, ltb, leb→le, nleb→lt, eqb→eq, ltb→lt, nltb→le}
 use lib.Pow.{pow-add, pow-pos, pow-mono, shl-lt}
@@ -151,6 +151,17 @@ module _ (f : Format) (n c : ℕ) (h : 0 < c) where
       go : (t : Bool) → (T t → j < k) → (T (not t) → k ≤ j) → off (kept (prec f) n c * 2 ^ k) ≤ off (q * 2 ^ j)
       go true a b = below q j l (a tt)
       go false a b = subst (λ (z : ℕ). off (kept (prec f) n c * 2 ^ k) ≤ off z) (lifted (b tt)) (multiple (q * 2 ^ (j - k)))
+
+-- so 2 ^ (prec - 1) units are no more than the fraction, or the unit is one step
+pub units-most : (f : Format) (a c : ℕ) → 0 < c → 2 ^ (prec f - 1) * (unit f a c * c) ≤ a * 2 ^ low f + 2 ^ (prec f - 1) * c
+unfolding unit k
+units-most f a c h =
+    let p = 2 ^ (prec f - 1) in
+    let n = a * 2 ^ low f in
+    ⊎-elim
+    (λ (z : k f n c h ≡ 0). rw z (le-trans (le-of-eq (ap (λ (m : ℕ). p * m) (one-mul c))) (le-add-left (p * c) n)))
+    (λ (d : 0 < k f n c h). le-trans (le-of-eq (sym (mul-assoc p (2 ^ k f n c h) c))) (le-trans (reached f n c h d) (le-add-right n (p * c))))
+    (eq-zero-or-pos (k f n c h))
 
 -- ---- at a whole number of steps that has no more digits than the format keeps: nothing is nearer, and the order is kept
 

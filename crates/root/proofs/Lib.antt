@@ -4,6 +4,7 @@ pub mod Shape
 pub mod Cases
 pub mod Nearest
 pub mod Theorems
+pub mod Coarse
 pub mod Paper
 pub mod Sheets
 pub mod Fixed

@@ -1,2 +1,3 @@
 pub mod Laws
+pub mod Range
 pub mod Fixed

@@ -19,6 +19,7 @@ use Rattle.exact.proofs.Steps.{steps-lt, same-number}
 use Rattle.exact.proofs.Rounding.{rounded, nothing-nearer, rounded-le, round-steps}
 use Rattle.exact.proofs.OneStep.{step, step-number, step-steps}
 use Rattle.exact.proofs.Zero.{positive-is}
+use Rattle.exact.proofs.Constants.{one-number}
 use Rattle.universal.specs.Series.{factorial, nearestInverse, inversesFrom, coefficients, sized, off, IsNearestInverse}
 
 -- ---- n!
@@ -43,10 +44,6 @@ thirds (suc k) = let t = thirds k in let n = suc (suc (suc k)) + 1 in (n * t .0,
     moved n d = omega arith
 
 -- ---- what 1/n! rounds to
-
-one-number : Number binary64 one
-unfolding ofBits
-one-number = (ofBits-fits binary64 0x3ff0_0000_0000_0000, tt)
 
 one-is : steps binary64 one * 1 ≡ inSteps 0
 unfolding steps ofBits inSteps
