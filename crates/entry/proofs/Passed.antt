@@ -8,7 +8,7 @@ use lib.Dec.{T, leb}
 use lib.Ieee.{Float, binary64, lt, le, neg, fits}
 use lib.Ieee.Fits.{add-fits, sub-fits, div-fits}
 use lib.Ieee.Bits.{is-true}
-use Rattle.exact.specs.Numbers.{_⊕_, _⊖_, _⊗_, _⊘_, nought, two, isFinite, Number}
+use Rattle.exact.specs.Numbers.{_⊕_, _⊖_, _⊗_, _⊘_, nought, two, isFinite, Number, magnitude}
 use Rattle.exact.proofs.Basics.{passed, both}
 use Rattle.exact.proofs.Signs.{Plus}
 use Rattle.search.specs.declared.Bracket.{Bracket}
@@ -23,7 +23,7 @@ use Rattle.units.specs.Units.{givenTested, radiusOf, unitOf, numbered}
 use Rattle.units.proofs.Positive.{unit-plus}
 use Rattle.conic.specs.Said.{inputNumber}
 use Rattle.conic.specs.TimeAndRatio.{timeAt}
-use Rattle.entry.specs.Entry.{straight, inputsTested, testedBy, scaledBy, scaledOf, farEndOf, startingBracket, bracketedBy, startOf, entryOf}
+use Rattle.entry.specs.Entry.{straight, inputsTested, testedBy, scaledBy, scaledOf, farEndOf, startingBracket, bracketedBy, startOf, entryOf, largestAngle, angleEntryOf}
 use Rattle.rows.proofs.Laws.{pass-once, test-passed, rows-passed}
 
 -- ---- the scaled problem
@@ -56,7 +56,7 @@ tested-is q o e h f plus =
     let each = five (isFinite (o .s)) (isFinite q) (isFinite (o .alpha)) (isFinite (o .p)) (isFinite (o .t)) (first .0) in
     (pass-once (test-passed no-line 7 (pass o) (first .1) .1), record { s-number = (f .0, each .0); alpha-number = (f .1, each .2); p-number = (f .2, each .3); t-number = (f .3, each .4); f4-plus = plus })
 
-scaled-is : (mu : Float) (r v : Vector) (dt : Float) (e : Scaled) → T (lt nought mu) → scaledOf mu r v dt ≡ pass e → Numbers e
+pub scaled-is : (mu : Float) (r v : Vector) (dt : Float) (e : Scaled) → T (lt nought mu) → scaledOf mu r v dt ≡ pass e → Numbers e
 unfolding scaledBy scaledOf
 scaled-is mu r v dt e above h =
     let R = rows-passed (numbered 5 14 (radiusOf r)) (λ r0. onward (numbered 6 14 (unitOf mu r0)) (λ f. scaledBy r v dt r0 (f .0) (f .1))) h in
@@ -94,7 +94,7 @@ pub record Entered (p : Problem) (o : Scaled) (b : Bracket) : Type 0 where
   pub far-reaches : Reaches o (cond (le nought (o .t)) far (neg far))
   pub bracket-is : b ≡ startingBracket (o .t) (pointAt (timeAt o) (cond (le nought (o .t)) far (neg far)))
 
-above-zero : (mu : Float) (r v : Vector) (last : Float) {good : Unit {0}} → inputsTested mu r v last ≡ pass good → T (lt nought mu)
+pub above-zero : (mu : Float) (r v : Vector) (last : Float) {good : Unit {0}} → inputsTested mu r v last ≡ pass good → T (lt nought mu)
 unfolding inputsTested
 above-zero mu r v last h =
     let first = rows-passed (givenTested inputNumber mu r v last) (λ finite. must (lt nought mu) 2 (pass tt)) h in
@@ -133,3 +133,12 @@ entered p o b h =
       far-reaches = B .0;
       bracket-is = refl;
     })
+
+-- ---- Theta's entry
+
+-- an angle that passed is not too large
+pub angle-allowed : (mu : Float) (r v : Vector) (a : Float) (o : Scaled) → angleEntryOf mu r v a ≡ pass o → le (magnitude a) largestAngle ≡ true
+unfolding angleEntryOf
+angle-allowed mu r v a o h =
+    let inputs = rows-passed (inputsTested mu r v a) (λ good. must (le (magnitude a) largestAngle) 4 (scaledOf mu r v nought)) h in
+    test-passed (le (magnitude a) largestAngle) 4 (scaledOf mu r v nought) (inputs .2) .0

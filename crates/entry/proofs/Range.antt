@@ -1,11 +1,11 @@
--- The series takes what lies in the starting bracket (universal's `Small`): the far end, on either side of 0, since it is small beside alpha, and
--- what lies between it and 0, which is no larger.
+-- The functions are not refused in the starting bracket of a problem that passed, ends included (`bracket-works`), nor at the far end, on either
+-- side of 0, of one whose far end is still to be tested (`far-end-works`). The far end is small beside alpha (universal's `Small`), and what lies
+-- between it and 0 is no larger. So no refusal of the series, 60, is ever answered as 6 there.
 use mathlib.Core.Path.{_≡_, refl, sym, subst}
 use mathlib.Core.Bool.{Bool, true, false, cond}
 use Prim.Native.Nat.{ℕ, _≤_, zero-le}
 use native.Mathlib.Nat.{le-of-eq}
-use lib.Dec.{T}
-use lib.Ieee.{Float, binary64, le, neg, fits}
+use lib.Ieee.{Float, binary64, le, neg}
 use Rattle.exact.specs.Numbers.{nought, Number, steps}
 use Rattle.exact.proofs.Basics.{both}
 use Rattle.exact.proofs.Zero.{nought-steps}
@@ -14,23 +14,37 @@ use Rattle.exact.proofs.Sizes.{between-most}
 use Rattle.rows.specs.Rows.{pass}
 use Rattle.search.specs.declared.Point.{Point}
 use Rattle.search.specs.declared.Bracket.{Bracket}
-use Rattle.search.specs.Search.{within}
 use Rattle.search.proofs.Hunt.{pointAt}
-use Rattle.search.proofs.Laws.{within-finite}
+use Rattle.search.proofs.Laws.{In}
 use Rattle.conic.specs.declared.Problem.{Problem}
 use Rattle.conic.specs.declared.Scaled.{Scaled}
 use Rattle.conic.specs.TimeAndRatio.{timeAt}
-use Rattle.universal.proofs.Range.{Small, small-within}
-use Rattle.entry.specs.Entry.{zeroEnd, farEndOf}
-use Rattle.entry.proofs.Passed.{Entered}
+use Rattle.universal.specs.Series.{inRange}
+use Rattle.universal.specs.Functions.{argumentAt}
+use Rattle.universal.proofs.Worked.{Works}
+use Rattle.universal.proofs.Range.{Small, small-within, in-range, small-works}
+use Rattle.entry.specs.Entry.{inputsTested, scaledOf, zeroEnd, farEndOf}
+use Rattle.entry.proofs.Passed.{Entered, above-zero, scaled-is}
 use Rattle.entry.proofs.FarEnd.{far-end-is}
 use Rattle.entry.proofs.Fair.{fair}
 
--- at the far end, on either side, before a problem has passed
-pub at-far-end : (alpha X : Float) → Number binary64 alpha → farEndOf alpha ≡ pass X → Small X alpha × Small (neg X) alpha
-at-far-end alpha X h e =
-    let f = far-end-is alpha X h e in
-    (f .small, small-within (neg X) X alpha (f .small) (le-of-eq (neg-number binary64 X (f .number) .2)))
+-- |z| ≤ 4, and the functions are not refused
+abbrev pub Taken : (x alpha : Float) → Type 0
+Taken x alpha = (inRange (argumentAt x alpha) ≡ true) × Works x alpha
+
+taken : (x alpha : Float) → Number binary64 x → Number binary64 alpha → Small x alpha → Taken x alpha
+taken x alpha h k s = (in-range x alpha h k s, small-works x alpha h k s)
+
+-- ---- the far end, before the test of its time
+
+pub far-end-works : (p : Problem) (o : Scaled) (X : Float) → inputsTested (p .mu) (p .r) (p .v) (p .dt) ≡ pass tt → scaledOf (p .mu) (p .r) (p .v) (p .dt) ≡ pass o → farEndOf (o .alpha) ≡ pass X
+    → Taken X (o .alpha) × Taken (neg X) (o .alpha)
+far-end-works p o X i s e =
+    let alpha = o .alpha in
+    let k = scaled-is (p .mu) (p .r) (p .v) (p .dt) o (above-zero (p .mu) (p .r) (p .v) (p .dt) i) s .alpha-number in
+    let f = far-end-is alpha X k e in
+    let back = neg-number binary64 X (f .number) in
+    (taken X alpha (f .number) k (f .small), taken (neg X) alpha (back .0) k (small-within (neg X) X alpha (f .small) (le-of-eq (back .2))))
 
 -- ---- the starting bracket
 
@@ -50,13 +64,12 @@ ends-size true far n l = (zero-size n, l)
 ends-size false far n l = (l, zero-size n)
 
 -- anywhere in the starting bracket of a problem that passed
-pub in-bracket : (p : Problem) (o : Scaled) (b : Bracket) → Entered p o b → (x : Float) → T (fits binary64 x) → within b x ≡ true → Number binary64 x × Small x (o .alpha)
-in-bracket p o b e x w i =
+pub bracket-works : (p : Problem) (o : Scaled) (b : Bracket) → Entered p o b → (x : Float) → In b x → Taken x (o .alpha)
+bracket-works p o b e x (number, i) =
     let u = le nought (o .t) in
     let X = e .far in
     let f = far-end-is (o .alpha) X (e .numbers .alpha-number) (e .far-is) in
     let s = fair p o b e .starts in
-    let number : Number binary64 x = (w, within-finite b x (s .lo-number) (s .hi-number) i) in
     let ends = subst (Ends (steps binary64 X)) (sym (e .bracket-is)) (ends-size u (pointAt (timeAt o) (cond u X (neg X))) (steps binary64 X) (far-size u X (f .number))) in
     let between = both (le (b .lo .x) x) (le x (b .hi .x)) .0 i in
-    (number, small-within x X (o .alpha) (f .small) (between-most binary64 (b .lo .x) x (b .hi .x) (steps binary64 X) (s .lo-number) number (s .hi-number) (ends .0) (ends .1) (between .0) (between .1)))
+    taken x (o .alpha) number (e .numbers .alpha-number) (small-within x X (o .alpha) (f .small) (between-most binary64 (b .lo .x) x (b .hi .x) (steps binary64 X) (s .lo-number) number (s .hi-number) (ends .0) (ends .1) (between .0) (between .1)))

@@ -26,6 +26,12 @@ pub renumbered-passed : {A : Type 0} (k : ℕ) (m : Checked A) {x : A} → renum
 renumbered-passed k (pass x) e = e
 renumbered-passed k (refuse j) e = absurd (true≢false cc)
 
+-- two rows behind another are the same where they are for all that the first lets pass
+pub onward-same : {A B : Type 0} (m : Checked A) (rest also : A → Checked B) → ((x : A) → m ≡ pass x → rest x ≡ also x) → onward m rest ≡ onward m also
+unfolding onward
+onward-same (pass x) rest also same = same x refl
+onward-same (refuse k) rest also same = refl
+
 -- a row that goes on without a test refuses where the first one did
 pub row-refused : {A B : Type 0} (m : Checked A) (value : A → B) {k : ℕ} → onward m (λ x. pass (value x)) ≡ refuse k → m ≡ refuse k
 unfolding onward

@@ -1,20 +1,24 @@
--- The series takes half of an angle that Theta takes: |a| ≤ 6.25, so half of it is at most 4 as computed, and its square at most 16.
-use mathlib.Core.Path.{_≡_, refl}
-use mathlib.Core.Bool.{true}
+-- The functions are not refused at half of an angle that Theta takes (`half-works`): |a| ≤ 6.25, so half of it is at most 4 as computed, and its
+-- square at most 16 (universal's `Small`).
+use mathlib.Core.Path.{_≡_, refl, sym}
+use mathlib.Core.Bool.{true, true≢false}
 use Prim.Native.Nat.{ℕ, _*_, _≤_}
 use native.Mathlib.Nat.{mul-pos, mul-le-mul, mul-le-mul-left, mul-le-mul-right}
 use native.Mathlib.Omega.{arith}
-use lib.Dec.{lit<}
-use lib.Ieee.{Float, binary64, le, ofBits}
+use lib.Dec.{T, lit<}
+use lib.Ieee.{Float, nan, inf, fin, binary64, lt, le, eq, fits, ofBits}
 use lib.Ieee.Bits.{ofBits-fits}
-use Rattle.exact.specs.Numbers.{_⊘_, one, two, Number, magnitude, steps, inSteps}
+use Rattle.exact.specs.Numbers.{_⊘_, one, two, isFinite, Number, magnitude, steps, inSteps}
 use Rattle.exact.proofs.Basics.{passed}
 use Rattle.exact.proofs.Signs.{Plus}
 use Rattle.exact.proofs.Most.{whole-held}
-use Rattle.exact.proofs.Constants.{one-some, one-steps, two-number, two-steps}
+use Rattle.exact.proofs.Constants.{one-some, one-number, one-steps, two-number, two-steps}
 use Rattle.exact.proofs.Coarse.{div-coarse}
 use Rattle.exact.proofs.Sizes.{magnitude-le}
-use Rattle.universal.proofs.Range.{Small}
+use Rattle.universal.specs.Series.{inRange}
+use Rattle.universal.specs.Functions.{argumentAt}
+use Rattle.universal.proofs.Worked.{Works}
+use Rattle.universal.proofs.Range.{Small, in-range, small-works}
 use Rattle.entry.specs.Entry.{largestAngle}
 
 -- ---- 6.25
@@ -38,7 +42,7 @@ half-square y L l = let square : y * y ≤ 16 * (L * L) = omega (arith, mul-le-m
 half-bounded : (y L : ℕ) → y ≤ 4 * L → y ≤ 64 * L
 half-bounded y L l = omega arith
 
-pub half-angle-small : (a : Float) → Number binary64 a → le (magnitude a) largestAngle ≡ true → Number binary64 (a ⊘ two) × Small (a ⊘ two) one
+half-angle-small : (a : Float) → Number binary64 a → le (magnitude a) largestAngle ≡ true → Number binary64 (a ⊘ two) × Small (a ⊘ two) one
 half-angle-small a h e =
     let l = half-most (steps binary64 a) (steps binary64 largestAngle) (inSteps 0) (magnitude-le a largestAngle h largest-plus .0 (passed e)) largest-steps in
     let half = div-coarse a two h two-number (4 * inSteps 0) (whole-held 4 (lit< tt)) (rw two-steps (mul-pos (lit< tt) one-some)) (rw two-steps l) in (
@@ -48,3 +52,13 @@ half-angle-small a h e =
         bounded = half-bounded (steps binary64 (a ⊘ two)) (inSteps 0) (half .most);
       },
     )
+
+-- an angle that is not too large is finite
+angle-finite : (a : Float) → le (magnitude a) largestAngle ≡ true → T (isFinite a)
+unfolding magnitude le lt eq ofBits
+angle-finite nan e = absurd (true≢false (sym e))
+angle-finite (inf s) e = absurd (true≢false (sym e))
+angle-finite (fin s m d) e = tt
+
+pub half-works : (a : Float) → T (fits binary64 a) → le (magnitude a) largestAngle ≡ true → (inRange (argumentAt (a ⊘ two) one) ≡ true) × Works (a ⊘ two) one
+half-works a w e = let h = half-angle-small a (w, angle-finite a e) e in (in-range (a ⊘ two) one (h .0) one-number (h .1), small-works (a ⊘ two) one (h .0) one-number (h .1))
