@@ -14,7 +14,7 @@ use Rattle.universal.specs.declared.Functions.{Functions}
 use Rattle.universal.specs.Functions.{functionsAt, orNans}
 use Rattle.universal.proofs.Worked.{Works, works-or-nans}
 use Rattle.arc.specs.declared.Scaled.{Scaled}
-use Rattle.arc.specs.Arc.{orNan, rootOrNan, shapeAt, timeAt}
+use Rattle.arc.specs.Arc.{orNan, rootOrNan, shapeBy, shapeAt, timeAt}
 
 -- ---- both roots
 
@@ -39,12 +39,12 @@ module _ (o : Scaled) (z : Float) (f : isFinite (timeAt o z) ≡ true) where
 
   -- T is NaN where g is
   nan-time : rootOrNan y ≡ nan → timeAt o z ≡ nan
-  unfolding timeAt shapeAt
+  unfolding timeAt shapeBy
   nan-time e = rw (e, times-nan (o .a)) (plus-nan _)
 
   -- and y where k is
   nan-shape : rootOrNan (u .u2) ≡ nan → y ≡ nan
-  unfolding shapeAt
+  unfolding shapeBy
   nan-shape e = rw (e, over-nan (o .a ⊗ (one ⊖ z ⊗ u .u3))) (minus-nan (one ⊕ o .rho))
 
   -- so C has a root
