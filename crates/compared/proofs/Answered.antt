@@ -1,6 +1,7 @@
 -- The tests that the solved cards of both kinds share, both ways: what a card that passes them has, and what passes them (`Passes`). From a fair
 -- bracket the exact gap of the times is at most 2^-36 + 2^-89 (`gap-small`), and a gap of at most 2^-36 passes (`near-enough`). The residual, in
--- seconds, has no minus and is at most 2^988 s (`residual-most`), and acceptance does not depend on it (`no-seconds`).
+-- seconds, has no minus and is at most 2^988 s (`residual-most`), and acceptance does not depend on it (`no-seconds`). Another time and finding,
+-- which are the same at an x in the bracket, have the same answer (`answered-same`).
 use mathlib.Core.Path.{_≡_, refl, sym}
 use mathlib.Core.Bool.{Bool, true, false, _&&_}
 use Prim.Native.Nat.{ℕ, _≤_}
@@ -86,6 +87,15 @@ module _ {A : Type 0} (time : Float → Float) (t : Float) (find : Float → Che
       go true false w = refl
       go true true false = refl
       go true true true = as-found (find x) (inSeconds (time x) t unit) (inSeconds (time x) t other)
+
+  pub answered-same : (otherTime : Float → Float) (otherFind : Float → Checked A) (unit : Float) → (within b x ≡ true → (time x ≡ otherTime x) × (find x ≡ otherFind x))
+      → answeredBy time t unit find same b x ≡ answeredBy otherTime t unit otherFind same b x
+  unfolding timedBy foundBy answeredBy must onward
+  answered-same otherTime otherFind unit alike = go (isFinite x && within b x) refl
+    where
+      go : (u : Bool) → isFinite x && within b x ≡ u → answeredBy time t unit find same b x ≡ answeredBy otherTime t unit otherFind same b x
+      go true e = let h = alike (is-true (within b x) (both (isFinite x) (within b x) .0 e .1)) in rw (h .0, h .1) refl
+      go false e = rw e refl
 
   -- in a unit that is a finite number without a minus, so is the residual, and it is at most 2^988 s
   pub residual-most : {found : A} (unit : Float) → Plus unit → Passes time t find same b x found → AtMost mostResidual (inSeconds (time x) t unit)

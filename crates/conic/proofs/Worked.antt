@@ -33,6 +33,6 @@ module _ (o : Scaled) (x : Float) where
   pub finite-works : isFinite (timeAt o x) ≡ true → Works x (o .alpha)
   unfolding timeAt
   finite-works f = elim (works-or-nans x (o .alpha)) [
-    inl w ↦ w
+    | inl w ↦ w
     | inr e ↦ absurd (true≢false (sym f ∙ ap (λ (u : Functions). isFinite (timeOf (o .s) u)) e ∙ ap isFinite (plus-nan (nan ⊕ o .s ⊗ nan))))
   ]

@@ -1,3 +1,4 @@
+pub mod Worked
 pub mod Accepted
 pub mod Rejected
 pub mod Made

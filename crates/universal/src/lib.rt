@@ -45,7 +45,12 @@ pub fn at_or_nan(x: f64, alpha: f64) -> Functions
         Values::Worked(u) => u,
         Values::Refused => {
             let u0 = 0.0 / 0.0;
-            Functions { u0, u1: u0, u2: u0, u3: u0 }
+            Functions {
+                u0,
+                u1: u0,
+                u2: u0,
+                u3: u0,
+            }
         }
     }
 }

@@ -1,0 +1,48 @@
+-- The verdict on a solved card does not come to functions that are refused: where its x lies in the starting bracket, T and the arrival there are
+-- those of the functions as they are worked whatever z is. So no refusal of the series, 60, is ever the verdict 6.
+use mathlib.Core.Path.{_≡_, ap}
+use mathlib.Core.Bool.{true}
+use mathlib.Core.List.{List}
+use Prim.Native.Nat.{ℕ}
+use lib.Dec.{eqb}
+use lib.Ieee.{Float, binary64}
+use lib.Ieee.Bits.{ofBits-fits}
+use Rattle.words.specs.Words.{valueAt}
+use Rattle.rows.specs.Rows.{Checked, pass, must, onward}
+use Rattle.rows.proofs.Laws.{onward-same}
+use Rattle.search.specs.declared.Bracket.{Bracket}
+use Rattle.search.specs.Search.{within}
+use Rattle.conic.specs.declared.Scaled.{Scaled}
+use Rattle.conic.specs.TimeAndRatio.{timeAt}
+use Rattle.conic.specs.Unfolding.{arrivalAt}
+use Rattle.conic.proofs.Worked.{workedTime, workedArrival, worked-time, worked-arrival}
+use Rattle.entry.specs.Entry.{entryOf}
+use Rattle.entry.proofs.Passed.{entered}
+use Rattle.entry.proofs.Range.{bracket-works}
+use Rattle.card.specs.Fields.{answerAt, problemOf, spareOf, xOf}
+use Rattle.compared.specs.Compared.{answeredBy}
+use Rattle.compared.proofs.Answered.{x-finite, answered-same}
+use Rattle.verdict.specs.Verdict.{sameState, atX, solvedCard}
+use Rattle.verdict.proofs.Tests.{starts-fair}
+
+module _ (body : List ℕ) where
+  abbrev x : Float
+  x = xOf body
+
+  -- the tests at x, with T and arrival as they are worked whatever z is
+  abbrev pub workedAtX : Scaled × Bracket → Checked Float
+  workedAtX (o, start) = answeredBy (workedTime o) (o .t) (o .f4) (workedArrival o) (sameState body) start x
+
+  alike : (o : Scaled) (start : Bracket) → entryOf (problemOf body) ≡ pass (o, start) → within start x ≡ true → (timeAt o x ≡ workedTime o x) × (arrivalAt o x ≡ workedArrival o x)
+  alike o start h w =
+      let finite = x-finite (timeAt o) (o .t) (arrivalAt o) (sameState body) start x (starts-fair body o start h) w in
+      let works = bracket-works (problemOf body) o start (entered (problemOf body) o start h) x ((ofBits-fits binary64 (valueAt 8 body answerAt), finite), w) .1 in
+      (worked-time o x works, worked-arrival o x works)
+
+  at-x : (e : Scaled × Bracket) → entryOf (problemOf body) ≡ pass e → atX body (e .0) (e .1) ≡ workedAtX e
+  unfolding atX
+  at-x (o, start) h = answered-same (timeAt o) (o .t) (arrivalAt o) (sameState body) start x (workedTime o) (workedArrival o) (o .f4) (alike o start h)
+
+  pub worked-card : solvedCard body ≡ must (eqb (spareOf body) 0) 23 (onward (entryOf (problemOf body)) workedAtX)
+  unfolding solvedCard
+  worked-card = ap (must (eqb (spareOf body) 0) 23) (onward-same (entryOf (problemOf body)) (λ e. atX body (e .0) (e .1)) workedAtX at-x)
