@@ -1,4 +1,4 @@
-"""What `predict`, `turn`, `transfer`, `root` and `digits` share: numbers or '-' in, lines out.
+"""What `predict`, `turn`, `transfer`, `root`, `digits` and `series` share: numbers or '-' in, lines out.
 
 With numbers, the same in decimals stands below or behind the program's line; `digits` shows its lines
 as a table. With '-' the lines are passed on as they are and as they come; a line that is cut off is
@@ -19,7 +19,7 @@ if TYPE_CHECKING:
     More = Optional[Callable[[bytes, str], list[str]]]
 
 # How a line begins that is an answer, or a part of one. Any other is a refusal, `short`, or unknown.
-GOOD = (b"solved ", b"root ", b"turn ", b"rounded ")
+GOOD = (b"solved ", b"root ", b"turn ", b"rounded ", b"series ")
 
 
 def answer(command: str, name: str, texts: list[str], pack: Pack = words.packed, more: More = None) -> int:
@@ -79,18 +79,18 @@ def show(command: str, rows: list[str]) -> None:
 def explained(command: str, line: str) -> list[str]:
     """A line, and what people are told of it."""
     first, *rest = line.split(" ")
-    if command == "root":
-        return [root_row(line) if first == "root" else line]
+    if first in ("root", "series"):
+        return [with_decimals(line)]
     if first == "solved":
         return [line, *(found_rows(rest) if command == "transfer" else solved_rows(command, rest))]
-    if first == "refused":
+    if first == "refused" and command != "root":
         return [line, *refused_rows(rest)]
     return [line]
 
 
-def root_row(line: str) -> str:
-    """A root's line, and its decimal behind it."""
-    return f"{line} {decimal(line.split(' ')[1])}"
+def with_decimals(line: str) -> str:
+    """The line of a root or a series, and behind it the decimals of its words."""
+    return " ".join([line, *map(decimal, line.split(" ")[1:])])
 
 
 def solved_rows(command: str, rest: list[str]) -> list[str]:
@@ -111,9 +111,11 @@ def found_rows(rest: list[str]) -> list[str]:
 
 
 def refused_rows(rest: list[str]) -> list[str]:
-    """Below a line with `refused`: the reason, guesses, and the last bracket if there is one."""
+    """Below a line with `refused`: the reason, guesses where they are counted, and the last bracket if there
+    is one."""
+    made = guesses(rest[1]) if len(rest) > 1 else []
     bracket = [row("bracket", " to ".join(map(decimal, rest[2:])))] if len(rest) == 4 else []
-    return [reason_row(rest[0]), *guesses(rest[1]), *bracket]
+    return [reason_row(rest[0]), *made, *bracket]
 
 
 def reason_row(number: str) -> str:

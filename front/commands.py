@@ -12,7 +12,7 @@ import os
 from front import streams
 from front.streams import signal
 
-COMMANDS = ("predict", "turn", "transfer", "root", "digits", "write", "show", "check", "why", "run", "help")
+COMMANDS = ("predict", "turn", "transfer", "root", "digits", "series", "write", "show", "check", "why", "run", "help")
 OTHER_NAMES = {"-h": "help", "--help": "help"}
 
 

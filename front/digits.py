@@ -53,7 +53,7 @@ def rows_of(record: bytes, lines: list[str]) -> list[str]:
     """The rows for the lines of the number in a record; ValueError where they are not whole."""
     first = lines[0] if len(lines) == 1 else ""
     if first in ZEROS:
-        return ["zero is its own root", answers.root_row(first)]
+        return ["zero is its own root", answers.with_decimals(first)]
     if first in REFUSALS:
         return [first, answers.reason_row(first.split(" ")[1])]
     *turns, rounded, root = lines
@@ -102,4 +102,4 @@ def read_root(line: str) -> str:
     name, word = line.split(" ")
     if name != "root" or not words.is_hex(word):
         raise ValueError(f"'{line}' is not the line of a root")
-    return answers.root_row(line)
+    return answers.with_decimals(line)

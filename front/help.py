@@ -12,7 +12,9 @@ usage: ./tailfiddle predict MU RX RY RZ VX VY VZ DT LIMIT   the state after DT s
        ./tailfiddle transfer MU R1 R2 DT LIMIT short|long   the velocity from R1 to R2 in DT seconds
        ./tailfiddle root NUMBER...                          the number nearest each square root
        ./tailfiddle digits NUMBER                           how that root is found, digit by digit
-       ./tailfiddle predict|turn|transfer|root|digits -     the same for inputs on standard input
+       ./tailfiddle series Z...                             the sums C2 and C3 at each Z
+       ./tailfiddle predict|turn|transfer -                 the same for inputs on standard input
+       ./tailfiddle root|digits|series -                    the same for numbers on standard input
        ./tailfiddle write PROBLEMS OUT                      a deck of cards from a text file
        ./tailfiddle check FILE                              the verdicts on a deck of cards
        ./tailfiddle show FILE                               the cards of a deck, in decimals
@@ -22,13 +24,13 @@ usage: ./tailfiddle predict MU RX RY RZ VX VY VZ DT LIMIT   the state after DT s
        ./tailfiddle why                                     the numbers that have a meaning
        ./tailfiddle help                                    this text
 
-MU is in km^3/s^2, R in km, V in km/s. Each of them, DT, A and the NUMBER of root and digits is a
-decimal (2, -1, 0.1, 1e-300, -0, inf, nan), taken as the nearest binary64 number (beyond the largest
-one: infinity), or 0x and the 16 hex digits of a word (0x4000000000000000). LIMIT, the most guesses
-that are made, is a whole number, 0 to 4294967295; predict and transfer refuse all but 1 to 100. R1
-and R2 are positions of three numbers each, X Y Z, so that transfer takes 10 words. The last is the
-way: 'short' is through the angle between R1 and R2 that is below 180 degrees, 'long' through the
-rest of the turn, round the centre in the other sense.
+MU is in km^3/s^2, R in km, V in km/s. Each of them, DT, A, the Z of series and the NUMBER of root
+and digits is a decimal (2, -1, 0.1, 1e-300, -0, inf, nan), taken as the nearest binary64 number
+(beyond the largest one: infinity), or 0x and the 16 hex digits of a word (0x4000000000000000).
+LIMIT, the most guesses that are made, is a whole number, 0 to 4294967295; predict and transfer
+refuse all but 1 to 100. R1 and R2 are positions of three numbers each, X Y Z, so that transfer
+takes 10 words. The last is the way: 'short' is through the angle between R1 and R2 that is below
+180 degrees, 'long' through the rest of the turn, round the centre in the other sense.
 
 The program's own line comes first: 'solved', the guesses made, x (of turn the angle), position
 and velocity, as words in hex; or 'refused', the reason's number, the guesses made and, with 9 and
@@ -49,6 +51,11 @@ binary digits that is brought down, the trial, the digit of the root, which is 1
 taken off, and the remainder. Then the number that the 54 digits make, and the one that they make
 rounded to 53; then the line that root prints. Zero has no table: it is its own root. Where NUMBER
 is refused, the program's line, and below it the reason in words.
+
+series gives one line for each Z: 'series', C2 and C3 as words, and their decimal values. These are
+the sums of which the universal functions are made (docs/RULES.md), with twelve terms each, which
+are good for Z from -4 to 4. Beyond that, and where Z is not a number, the line is 'refused 60', and
+below it stands the reason in words.
 
 Inputs for '-' are little-endian: the words in the order above, then LIMIT in 4 bytes, and for
 transfer the way in 4 bytes, 0 for short and 1 for long; as many as come. The lines are the
@@ -86,11 +93,11 @@ A program that is not built yet, or is older than its sources, is first proved a
 Rattle kit; standard error tells which crate is being proved. RATTLE_HOME names the kit's folder
 where it is not the one of the 'rt' on the PATH.
 
-Status: 0 every answer is solved or a root, every card that is written is solved, no card of the
-deck is rejected, why has an entry;
+Status: 0 every answer is solved, a root or a series, every card that is written is solved, no card
+of the deck is rejected, why has an entry;
 1 an answer, the deck or a card was refused or rejected, or the lines end with 'short';
 2 wrong usage, or something is missing or fails: a closed input, a read, a write, a program. What
-predict, turn, transfer, root or digits had printed is then not all.
+predict, turn, transfer, root, digits or series had printed is then not all.
 """
 
 

@@ -94,7 +94,7 @@ class Show(unittest.TestCase):
         self.assertTrue(show.refusal_text(8).startswith("8: beyond"))
         for number in words.REFUSALS:
             self.assertNotIn("docs/REFUSALS.md", show.refusal_text(number))
-        for number in (0, 4, 12, 13, 22, 40, 50, 99, 100, 109, 4294967295):
+        for number in (0, 4, 12, 13, 22, 40, 50, 60, 99, 100, 109, 4294967295):
             self.assertEqual(show.refusal_text(number), f"{number}: no refusal of a prediction")
 
     def test_numbers_that_are_not_finite(self):
@@ -197,7 +197,7 @@ class Ran(unittest.TestCase):
 
     def test_wrong_usage(self):
         commands_of_all = "write", "write a", "write a b c", "show", "show a b", "show --problems", "check", "check a b"
-        for command in (*commands_of_all, "why 1 2", "why x", "root", "root x", "turn 1", "predict - -", "nothing"):
+        for command in (*commands_of_all, "why 1 2", "why x", "root", "root x", "series", "turn 1", "predict - -", "nothing"):
             with self.subTest(command):
                 self.written = b""
                 self.assertEqual(commands.main(command.split()), 2)
@@ -288,12 +288,17 @@ class Answers(unittest.TestCase):
         self.assertEqual(answers.explained("transfer", found), rows)
         self.assertEqual(answers.explained("root", f"root {one}"), [f"root {one} 1"])
         self.assertEqual(answers.explained("root", "refused 13"), ["refused 13"])
+        sums = f"series {one} 4034000000000000"
+        self.assertEqual(answers.explained("series", sums), [f"{sums} 1 20"])
+        rows = ["refused 60", "  reason    z is outside the range of the series"]
+        self.assertEqual(answers.explained("series", "refused 60"), rows)
 
     def test_other_lines_are_counted(self):
         self.assertEqual(answers.others(b""), 0)
         self.assertEqual(answers.others(b"solved 1\nroot 2\nturn 1 2 1 1 1\nrounded 3 2\n"), 0)
         self.assertEqual(answers.others(b"refused 1 0\nsolved 1\nshort\nsolvedx\nunsolved root \n"), 4)
         self.assertEqual(answers.others(b"refused 13\nturn 1\nturn\nturned 1\n turn 1\nround 1\n\n"), 6)
+        self.assertEqual(answers.others(b"series 1 2\nrefused 60\nseries\nserie 1\nshort\n"), 4)
 
     def test_lines_are_passed_on_whole(self):
         passed = []

@@ -4,10 +4,11 @@ use mathlib.Core.Path.{_≡_, refl, sym, ap, _∙_}
 use mathlib.Core.Logic.{_⊎_, inl, inr}
 use mathlib.Core.Bool.{Bool, true, false}
 use lib.Ieee.{Float}
+use Rattle.exact.specs.Numbers.{_⊘_}
 use Rattle.rows.specs.Rows.{Checked, pass, refuse, must, onward}
 use Rattle.rows.proofs.Laws.{pass-once, test-passed}
 use Rattle.universal.specs.declared.Functions.{Functions}
-use Rattle.universal.specs.Series.{coefficients, worked, inRange, outOfRange, seriesOf}
+use Rattle.universal.specs.Series.{four, coefficients, worked, inRange, outOfRange, seriesOf}
 use Rattle.universal.specs.Functions.{argumentAt, quartered, doubledTwice, functionsAt, workedAt, nans, orNans}
 
 -- the functions at x are not refused
@@ -23,7 +24,7 @@ module _ (x alpha : Float) where
   by-range = go (inRange z)
     where
       made : (c2 c3 : Float) → Functions
-      made c2 c3 = doubledTwice alpha (quartered x alpha c2 c3)
+      made c2 c3 = doubledTwice alpha (quartered (x ⊘ four) alpha c2 c3)
 
       go : (b : Bool) → onward (must b outOfRange (pass (worked (coefficients 2) z))) (λ c2. onward (must b outOfRange (pass (worked (coefficients 3) z))) (λ c3. pass (made c2 c3))) ≡ must b outOfRange (pass (made (worked (coefficients 2) z) (worked (coefficients 3) z)))
       go true = refl

@@ -5,14 +5,13 @@ use Rattle.rows.specs.Rows.{Checked, pass, refuse, onward}
 use Rattle.universal.specs.declared.Functions.{Functions}
 use Rattle.universal.specs.Series.{four, coefficients, worked, seriesOf}
 
--- 5: y = x/4, h = y*y, z = alpha*h
+-- 5: z = alpha*h, where h = y*y and y = x/4
 abbrev pub argumentAt : (x alpha : Float) → Float
 argumentAt x alpha = let y = x ⊘ four in alpha ⊗ (y ⊗ y)
 
 -- 5: U2 = h*C2(z), U3 = (y*h)*C3(z), U1 = y - alpha*U3, U0 = 1 - alpha*U2
-abbrev pub quartered : (x alpha c2 c3 : Float) → Functions
-quartered x alpha c2 c3 =
-    let y = x ⊘ four in
+abbrev pub quartered : (y alpha c2 c3 : Float) → Functions
+quartered y alpha c2 c3 =
     let h = y ⊗ y in
     let u2 = h ⊗ c2 in
     let u3 = (y ⊗ h) ⊗ c3 in
@@ -34,13 +33,13 @@ functionsAt x alpha =
     let z = argumentAt x alpha in
     onward (seriesOf 2 z) (λ c2.
     onward (seriesOf 3 z) (λ c3.
-    pass (doubledTwice alpha (quartered x alpha c2 c3))))
+    pass (doubledTwice alpha (quartered (x ⊘ four) alpha c2 c3))))
 
 -- the same whatever z is: what the functions are where they are not refused
 unfoldable pub workedAt : (x alpha : Float) → Functions
 workedAt x alpha =
     let z = argumentAt x alpha in
-    doubledTwice alpha (quartered x alpha (worked (coefficients 2) z) (worked (coefficients 3) z))
+    doubledTwice alpha (quartered (x ⊘ four) alpha (worked (coefficients 2) z) (worked (coefficients 3) z))
 
 -- 9: functions that are refused stand in a time as NaNs, so that it is not finite
 abbrev pub nans : Functions

@@ -47,11 +47,15 @@ inRange z = le (magnitude z) four
 abbrev pub outOfRange : ℕ
 outOfRange = 60
 
+-- 2 and 4: a series by its table
+abbrev pub seriesBy : List Float → Float → Checked Float
+seriesBy table z =
+    must (inRange z) outOfRange
+    (pass (worked table z))
+
 -- 1 to 4: C2(z), with first = 2, and C3(z), with first = 3
 unfoldable pub seriesOf : (first : ℕ) (z : Float) → Checked Float
-seriesOf first z =
-    must (inRange z) outOfRange
-    (pass (worked (coefficients first) z))
+seriesOf first z = seriesBy (coefficients first) z
 
 -- ---- 3, each coefficient is nearest 1/n!: over whole numbers, among all binary64 numbers
 

@@ -5,7 +5,7 @@
 // `specs/`, for every input, NaN and infinities included. The crate assumes nothing.
 use crate::series::Sum;
 ghost use mathlib.Core.Path.{_≡_};
-ghost use Rattle.universal.specs.Functions.{argumentAt, quartered, doubledOnce, functionsAt, orNans, timeOf, ratioOf};
+ghost use Rattle.universal.specs.Functions.{quartered, doubledOnce, functionsAt, orNans, timeOf, ratioOf};
 ghost use Rattle.universal.specs.Said.{valued};
 
 pub mod series;
@@ -27,14 +27,15 @@ pub enum Values {
 pub fn at(x: f64, alpha: f64) -> Values
     ensures { λ r. ⌜ valued r ≡ functionsAt x alpha ⌝ }
 {
-    let z = argument(x, alpha);
+    let y = x / 4.0;
+    let z = alpha * (y * y);
     let Sum::Worked(c2) = series::c2(z) else {
         return Values::Refused;
     };
     let Sum::Worked(c3) = series::c3(z) else {
         return Values::Refused;
     };
-    Values::Worked(doubled(alpha, doubled(alpha, quarter(x, alpha, c2, c3))))
+    Values::Worked(doubled(alpha, doubled(alpha, quarter(y, alpha, c2, c3))))
 }
 
 // The same for a time, in which functions that are refused stand as NaNs.
@@ -55,18 +56,9 @@ pub fn at_or_nan(x: f64, alpha: f64) -> Functions
     }
 }
 
-// z: where the series are worked.
-fn argument(x: f64, alpha: f64) -> f64
-    ensures { λ r. ⌜ r ≡ argumentAt x alpha ⌝ }
+fn quarter(y: f64, alpha: f64, c2: f64, c3: f64) -> Functions
+    ensures { λ r. ⌜ r ≡ quartered y alpha c2 c3 ⌝ }
 {
-    let y = x / 4.0;
-    alpha * (y * y)
-}
-
-fn quarter(x: f64, alpha: f64, c2: f64, c3: f64) -> Functions
-    ensures { λ r. ⌜ r ≡ quartered x alpha c2 c3 ⌝ }
-{
-    let y = x / 4.0;
     let h = y * y;
     let u2 = h * c2;
     let u3 = (y * h) * c3;

@@ -1,6 +1,6 @@
 // C2 and C3: RULES, The universal functions 1 to 4. One loop works both, from k = 11 down.
 ghost use mathlib.Core.Path.{_≡_};
-ghost use Rattle.universal.specs.Series.{worked, inRange, outOfRange, seriesOf};
+ghost use Rattle.universal.specs.Series.{worked, outOfRange, seriesBy, seriesOf};
 ghost use Rattle.universal.specs.Said.{summed};
 
 // The largest |z| for which twelve terms are good.
@@ -57,26 +57,23 @@ pub fn refusal() -> u32
 pub fn c2(z: f64) -> Sum
     ensures { λ r. ⌜ summed r ≡ seriesOf 2 z ⌝ }
 {
-    if !in_range(z) {
-        return Sum::Refused;
-    }
-    Sum::Worked(horner(EVEN, z))
+    ranged(EVEN, z)
 }
 
 pub fn c3(z: f64) -> Sum
     ensures { λ r. ⌜ summed r ≡ seriesOf 3 z ⌝ }
 {
-    if !in_range(z) {
-        return Sum::Refused;
-    }
-    Sum::Worked(horner(ODD, z))
+    ranged(ODD, z)
 }
 
-// |z| ≤ 4, which is false of NaN.
-fn in_range(z: f64) -> bool
-    ensures { λ r. ⌜ r ≡ inRange z ⌝ }
+// |z| ≤ 4 is false of NaN.
+fn ranged(table: [f64; 12], z: f64) -> Sum
+    ensures { λ r. ⌜ summed r ≡ seriesBy table z ⌝ }
 {
-    exact::absolute(z) <= RANGE
+    if !(exact::absolute(z) <= RANGE) {
+        return Sum::Refused;
+    }
+    Sum::Worked(horner(table, z))
 }
 
 // The last coefficient, then again and again times -z and the next one added.

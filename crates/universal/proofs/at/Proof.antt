@@ -1,7 +1,7 @@
 -- `at` meets its contract: one of the series is refused, or a quarter is doubled twice.
-use mathlib.Core.Path.{_≡_, refl, sym, ap, _∙_}
+use mathlib.Core.Path.{_≡_, refl, sym}
 use borrow.Author.Needs.{needs}
-use Rattle.rows.specs.Rows.{pass, onward}
+use Rattle.rows.specs.Rows.{onward}
 use Rattle.universal.specs.Said.{summed}
 use Rattle.universal.specs.Series.{seriesOf}
 use Rattle.universal.specs.Functions.{argumentAt, functionsAt}
@@ -9,12 +9,12 @@ use Rattle.universal.proofs.at.Statement.{statement}
 use Rattle.universal.proofs.at.Tie as tie
 
 -- what C2 came to
-first : (c : tie.After-c2) → seriesOf 2 (argumentAt (c .before .before .args .x) (c .before .before .args .alpha)) ≡ summed (c .c2 .result)
-first c = ap (seriesOf 2) (sym (c .before .argument .ensures)) ∙ sym (c .c2 .ensures)
+first : (c : tie.After-c2) → seriesOf 2 (argumentAt (c .before .args .x) (c .before .args .alpha)) ≡ summed (c .c2 .result)
+first c = sym (c .c2 .ensures)
 
 -- and C3
-second : (c : tie.After-c3) → seriesOf 3 (argumentAt (c .before .before .before .before .before .before .args .x) (c .before .before .before .before .before .before .args .alpha)) ≡ summed (c .c3 .result)
-second c = ap (seriesOf 3) (sym (c .before .before .before .before .before .argument .ensures)) ∙ sym (c .c3 .ensures)
+second : (c : tie.After-c3) → seriesOf 3 (argumentAt (c .before .before .before .before .before .args .x) (c .before .before .before .before .before .args .alpha)) ≡ summed (c .c3 .result)
+second c = sym (c .c3 .ensures)
 
 returns : tie.Need-returns
 unfolding onward functionsAt
@@ -34,4 +34,4 @@ returns-3 c =
 pub at-spec : {M : Type 1} → statement M
 at-spec =
     tie.close
-    (tie.spec (λ c κs. search needs) (λ c κs. search needs) (λ c. search needs) (λ c. search needs) returns (λ c κs. search needs) (λ c. search needs) (λ c. search needs) returns-2 (λ c κs. search needs) (λ c κs. search needs) (λ c κs. search needs) returns-3)
+    (tie.spec (λ c κs. search needs) (λ c. search needs) (λ c. search needs) returns (λ c κs. search needs) (λ c. search needs) (λ c. search needs) returns-2 (λ c κs. search needs) (λ c κs. search needs) (λ c κs. search needs) returns-3)
