@@ -11,9 +11,9 @@ such problem and is left out. Three cards are shown so:
                velocity  0 7.5 1 km/s
                time      3600 s
                limit     20
-      answer   x         3.8563973673999987
-               position  -5400.9115774829925 -4517.529081172816 -602.3372108230421 km
-               velocity  4.853466182834457 -5.660956476685204 -0.7547941968913605 km/s
+      answer   x         3.8563973673999983
+               position  -5400.911577482996 -4517.529081172817 -602.3372108230423 km
+               velocity  4.853466182834458 -5.660956476685207 -0.754794196891361 km/s
 
     card 2: refused; rejected with 24: Kepler does not refuse with this number
       problem  mu        1 km^3/s^2
