@@ -9,6 +9,8 @@ use Rattle.universal.proofs.series.c2.Reads as series-c2
 use Rattle.universal.proofs.series.c2.Kinds as series-c2-kinds
 use Rattle.universal.proofs.series.c3.Reads as series-c3
 use Rattle.universal.proofs.series.c3.Kinds as series-c3-kinds
+use Rattle.universal.proofs.series.both_or_nan.Reads as series-both-or-nan
+use Rattle.universal.proofs.series.both_or_nan.Kinds as series-both-or-nan-kinds
 use Rattle.universal.proofs.at.Reads as at
 use Rattle.universal.proofs.at.Kinds as at-kinds
 use Rattle.universal.proofs.at_or_nan.Reads as at-or-nan
@@ -26,6 +28,9 @@ series-c2-fixes κs a x y v w p q = (one-answer summed-once x y p q, refl)
 
 pub series-c3-fixes : Fixes 0 series-c3-kinds.ps series-c3-kinds.r series-c3.Learnt
 series-c3-fixes κs a x y v w p q = (one-answer summed-once x y p q, refl)
+
+pub series-both-or-nan-fixes : Fixes 0 series-both-or-nan-kinds.ps series-both-or-nan-kinds.r series-both-or-nan.Learnt
+series-both-or-nan-fixes κs a x y v w p q = (one-result p q, refl)
 
 pub at-fixes : Fixes 0 at-kinds.ps at-kinds.r at.Learnt
 at-fixes κs a x y v w p q = (one-answer valued-once x y p q, refl)

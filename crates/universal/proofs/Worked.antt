@@ -3,12 +3,13 @@
 use mathlib.Core.Path.{_≡_, refl, sym, ap, _∙_}
 use mathlib.Core.Logic.{_⊎_, inl, inr}
 use mathlib.Core.Bool.{Bool, true, false}
-use lib.Ieee.{Float}
+use lib.Ieee.{Float, nan}
 use Rattle.exact.specs.Numbers.{_⊘_}
+use Rattle.exact.proofs.NotANumber.{plus-nan, minus-nan, times-nan}
 use Rattle.rows.specs.Rows.{Checked, pass, refuse, must, onward}
 use Rattle.rows.proofs.Laws.{pass-once, test-passed}
 use Rattle.universal.specs.declared.Functions.{Functions}
-use Rattle.universal.specs.Series.{four, coefficients, worked, inRange, outOfRange, seriesOf}
+use Rattle.universal.specs.Series.{four, coefficients, worked, inRange, outOfRange, seriesOf, sumsOrNans}
 use Rattle.universal.specs.Functions.{argumentAt, quartered, doubledTwice, functionsAt, workedAt, nans, orNans}
 
 -- the functions at x are not refused
@@ -45,6 +46,18 @@ module _ (x alpha : Float) where
 
   pub passed-works : {u : Functions} → functionsAt x alpha ≡ pass u → Works x alpha
   passed-works e = e ∙ sym (row-passed e .1)
+
+  -- what is made of NaNs, and of sums or NaNs
+  of-nans : doubledTwice alpha (quartered (x ⊘ four) alpha nan nan) ≡ nans
+  of-nans = simp (times-nan, minus-nan, plus-nan)
+
+  pub of-sums-or-nans : doubledTwice alpha (quartered (x ⊘ four) alpha (sumsOrNans z .c2) (sumsOrNans z .c3)) ≡ orNans (functionsAt x alpha)
+  unfolding must onward seriesOf functionsAt
+  of-sums-or-nans = go (inRange z) refl
+    where
+      go : (b : Bool) → inRange z ≡ b → doubledTwice alpha (quartered (x ⊘ four) alpha (sumsOrNans z .c2) (sumsOrNans z .c3)) ≡ orNans (functionsAt x alpha)
+      go true e = rw e refl
+      go false e = rw e of-nans
 
   pub works-or-nans : Works x alpha ⊎ (orNans (functionsAt x alpha) ≡ nans)
   works-or-nans = go (functionsAt x alpha) refl

@@ -1,4 +1,4 @@
--- C2 and C3: RULES, The universal functions 1 to 4. Definitions only.
+-- C2 and C3: RULES, The universal functions 1 to 4 and 9. Definitions only.
 use Prim.Native.Nat.{ℕ, zero, suc, _+_, _*_, _≤_}
 use mathlib.Core.Path.{_≡_}
 use mathlib.Core.Bool.{Bool, false, cond}
@@ -7,7 +7,8 @@ use lib.ListN.{getD}
 use lib.Dec.{T}
 use lib.Ieee.{Float, nan, binary64, round, neg, lt, le}
 use Rattle.exact.specs.Numbers.{_⊕_, _⊗_, numberOf, nought, magnitude, Number, isMinus, steps, distance, inSteps}
-use Rattle.rows.specs.Rows.{Checked, pass, must}
+use Rattle.rows.specs.Rows.{Checked, pass, refuse, must}
+use Rattle.universal.specs.declared.series.Pair.{Pair}
 
 -- n!
 abbrev pub factorial : ℕ → ℕ
@@ -56,6 +57,14 @@ seriesBy table z =
 -- 1 to 4: C2(z), with first = 2, and C3(z), with first = 3
 unfoldable pub seriesOf : (first : ℕ) (z : Float) → Checked Float
 seriesOf first z = seriesBy (coefficients first) z
+
+-- 9: a sum that is refused stands in a time as NaN
+abbrev pub sumOrNan : Checked Float → Float
+sumOrNan (pass sum) = sum
+sumOrNan (refuse k) = nan
+
+abbrev pub sumsOrNans : (z : Float) → Pair
+sumsOrNans z = record { c2 = sumOrNan (seriesOf 2 z); c3 = sumOrNan (seriesOf 3 z) }
 
 -- ---- 3, each coefficient is nearest 1/n!: over whole numbers, among all binary64 numbers
 

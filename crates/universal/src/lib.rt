@@ -42,18 +42,9 @@ pub fn at(x: f64, alpha: f64) -> Values
 pub fn at_or_nan(x: f64, alpha: f64) -> Functions
     ensures { λ r. ⌜ r ≡ orNans (functionsAt x alpha) ⌝ }
 {
-    match at(x, alpha) {
-        Values::Worked(u) => u,
-        Values::Refused => {
-            let u0 = 0.0 / 0.0;
-            Functions {
-                u0,
-                u1: u0,
-                u2: u0,
-                u3: u0,
-            }
-        }
-    }
+    let y = x / 4.0;
+    let sums = series::both_or_nan(alpha * (y * y));
+    doubled(alpha, doubled(alpha, quarter(y, alpha, sums.c2, sums.c3)))
 }
 
 fn quarter(y: f64, alpha: f64, c2: f64, c3: f64) -> Functions

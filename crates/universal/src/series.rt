@@ -1,6 +1,6 @@
 // C2 and C3: RULES, The universal functions 1 to 4. One loop works both, from k = 11 down.
 ghost use mathlib.Core.Path.{_≡_};
-ghost use Rattle.universal.specs.Series.{worked, outOfRange, seriesBy, seriesOf};
+ghost use Rattle.universal.specs.Series.{worked, inRange, outOfRange, seriesBy, seriesOf, sumOrNan, sumsOrNans};
 ghost use Rattle.universal.specs.Said.{summed};
 
 // The largest |z| for which twelve terms are good.
@@ -47,6 +47,12 @@ pub enum Sum {
     Refused,
 }
 
+// Both sums.
+pub struct Pair {
+    pub c2: f64,
+    pub c3: f64,
+}
+
 // The refusal's number.
 pub fn refusal() -> u32
     ensures { λ r. ⌜ r ≡ outOfRange ⌝ }
@@ -66,14 +72,38 @@ pub fn c3(z: f64) -> Sum
     ranged(ODD, z)
 }
 
-// |z| ≤ 4 is false of NaN.
+// Both at once for a time, in which a sum that is refused stands as NaN.
+pub fn both_or_nan(z: f64) -> Pair
+    ensures { λ r. ⌜ r ≡ sumsOrNans z ⌝ }
+{
+    Pair {
+        c2: or_nan(EVEN, z),
+        c3: or_nan(ODD, z),
+    }
+}
+
 fn ranged(table: [f64; 12], z: f64) -> Sum
     ensures { λ r. ⌜ summed r ≡ seriesBy table z ⌝ }
 {
-    if !(exact::absolute(z) <= RANGE) {
+    if !in_range(z) {
         return Sum::Refused;
     }
     Sum::Worked(horner(table, z))
+}
+
+// The sum is worked in either case: a choice at the end keeps the steps in one line, and a time quick.
+fn or_nan(table: [f64; 12], z: f64) -> f64
+    ensures { λ r. ⌜ r ≡ sumOrNan (seriesBy table z) ⌝ }
+{
+    let sum = horner(table, z);
+    if in_range(z) { sum } else { 0.0 / 0.0 }
+}
+
+// |z| ≤ 4, which is false of NaN.
+fn in_range(z: f64) -> bool
+    ensures { λ r. ⌜ r ≡ inRange z ⌝ }
+{
+    exact::absolute(z) <= RANGE
 }
 
 // The last coefficient, then again and again times -z and the next one added.
