@@ -1,15 +1,21 @@
 -- `entry::far_end` meets its contract: each return is one case of the definition.
-use mathlib.Core.Path.{refl}
+use mathlib.Core.Path.{_≡_, refl}
+use mathlib.Core.Bool.{true}
 use borrow.Author.Needs.{needs}
+use lib.Ieee.{le}
 use Rattle.rows.specs.Rows.{onward}
-use Rattle.entry.specs.Entry.{farEndOf}
+use Rattle.entry.specs.Entry.{sixtyFourth, farEndOf}
 use Rattle.units.proofs.Rooted.{root-given, root-refused}
 use Rattle.entry.proofs.far_end.Statement.{statement}
 use Rattle.entry.proofs.far_end.Tie as tie
 
+-- |alpha| is small as the test found it
+small : (c : tie.Then1) → le (c .before .absolute .result) sixtyFourth ≡ true
+small c = c .if1 .taken
+
 returns : tie.Need-returns
 unfolding farEndOf
-returns c = rw (← c .before .absolute .ensures, c .if1 .taken) refl
+returns c = rw (← c .before .absolute .ensures, small c) refl
 
 returns-2 : tie.Need-returns-2
 unfolding onward farEndOf
