@@ -11,10 +11,7 @@ use Rattle.exact.proofs.Basics.{passed}
 use Rattle.exact.proofs.Zero.{nought-number, nought-steps}
 use Rattle.exact.proofs.Constants.{one-number, one-steps}
 use Rattle.exact.proofs.Sizes.{between-most}
-use Rattle.universal.specs.Series.{inRange}
-use Rattle.universal.specs.Functions.{argumentAt}
-use Rattle.universal.proofs.Worked.{Works}
-use Rattle.universal.proofs.Range.{Small, in-range, small-works}
+use Rattle.universal.proofs.Range.{Small, Taken, small-taken}
 use Rattle.arc_entry.specs.ArcEntry.{thirtySix}
 use Rattle.arc_entry.proofs.Fair.{upper-number}
 
@@ -36,10 +33,10 @@ bracket-small z h l u =
       bounded = rw one-steps (one-bounded (inSteps 0));
     }
 
-pub bracket-works : (z : Float) → Number binary64 z → le nought z ≡ true → le z thirtySix ≡ true → (inRange (argumentAt one z) ≡ true) × Works one z
-bracket-works z h l u = let s = bracket-small z h l u in (in-range one z one-number h s, small-works one z one-number h s)
+pub bracket-works : (z : Float) → Number binary64 z → le nought z ≡ true → le z thirtySix ≡ true → Taken one z
+bracket-works z h l u = small-taken one z one-number h (bracket-small z h l u)
 
 -- so at both ends, whose times are tested before the first guess
-pub ends-work : Works one nought × Works one thirtySix
+pub ends-work : Taken one nought × Taken one thirtySix
 unfolding le lt eq ofBits
-ends-work = (bracket-works nought nought-number refl refl .1, bracket-works thirtySix upper-number refl refl .1)
+ends-work = (bracket-works nought nought-number refl refl, bracket-works thirtySix upper-number refl refl)

@@ -19,21 +19,11 @@ use Rattle.search.proofs.Laws.{In}
 use Rattle.conic.specs.declared.Problem.{Problem}
 use Rattle.conic.specs.declared.Scaled.{Scaled}
 use Rattle.conic.specs.TimeAndRatio.{timeAt}
-use Rattle.universal.specs.Series.{inRange}
-use Rattle.universal.specs.Functions.{argumentAt}
-use Rattle.universal.proofs.Worked.{Works}
-use Rattle.universal.proofs.Range.{Small, small-within, in-range, small-works}
+use Rattle.universal.proofs.Range.{Taken, small-within, small-taken}
 use Rattle.entry.specs.Entry.{inputsTested, scaledOf, zeroEnd, farEndOf}
 use Rattle.entry.proofs.Passed.{Entered, above-zero, scaled-is}
 use Rattle.entry.proofs.FarEnd.{far-end-is}
 use Rattle.entry.proofs.Fair.{fair}
-
--- |z| ≤ 4, and the functions are not refused
-abbrev pub Taken : (x alpha : Float) → Type 0
-Taken x alpha = (inRange (argumentAt x alpha) ≡ true) × Works x alpha
-
-taken : (x alpha : Float) → Number binary64 x → Number binary64 alpha → Small x alpha → Taken x alpha
-taken x alpha h k s = (in-range x alpha h k s, small-works x alpha h k s)
 
 -- ---- the far end, before the test of its time
 
@@ -44,7 +34,7 @@ far-end-works p o X i s e =
     let k = scaled-is (p .mu) (p .r) (p .v) (p .dt) o (above-zero (p .mu) (p .r) (p .v) (p .dt) i) s .alpha-number in
     let f = far-end-is alpha X k e in
     let back = neg-number binary64 X (f .number) in
-    (taken X alpha (f .number) k (f .small), taken (neg X) alpha (back .0) k (small-within (neg X) X alpha (f .small) (le-of-eq (back .2))))
+    (small-taken X alpha (f .number) k (f .small), small-taken (neg X) alpha (back .0) k (small-within (neg X) X alpha (f .small) (le-of-eq (back .2))))
 
 -- ---- the starting bracket
 
@@ -72,4 +62,4 @@ bracket-works p o b e x (number, i) =
     let s = fair p o b e .starts in
     let ends = subst (Ends (steps binary64 X)) (sym (e .bracket-is)) (ends-size u (pointAt (timeAt o) (cond u X (neg X))) (steps binary64 X) (far-size u X (f .number))) in
     let between = both (le (b .lo .x) x) (le x (b .hi .x)) .0 i in
-    taken x (o .alpha) number (e .numbers .alpha-number) (small-within x X (o .alpha) (f .small) (between-most binary64 (b .lo .x) x (b .hi .x) (steps binary64 X) (s .lo-number) number (s .hi-number) (ends .0) (ends .1) (between .0) (between .1)))
+    small-taken x (o .alpha) number (e .numbers .alpha-number) (small-within x X (o .alpha) (f .small) (between-most binary64 (b .lo .x) x (b .hi .x) (steps binary64 X) (s .lo-number) number (s .hi-number) (ends .0) (ends .1) (between .0) (between .1)))

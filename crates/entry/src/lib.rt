@@ -23,7 +23,7 @@ const STRAIGHT: f64 = 9.5367431640625e-07;
 
 const SIXTY_FOURTH: f64 = 0.015625;
 
-// X where |alpha| is at most that; and what its root is a divisor of elsewhere.
+// X where |alpha| is at most that; elsewhere the root of |alpha| divides the other.
 const FARTHEST: f64 = 63.5;
 
 const REACH: f64 = 7.9375;

@@ -1,6 +1,6 @@
-// The programs that answer records: `predict`, `turn`, `transfer`, `roots` and `root_digits` read
-// records of one size from standard input, block by block, and write the lines that `lines` makes of
-// each block.
+// The programs that answer records: `predict`, `turn`, `transfer`, `series`, `roots` and `root_digits`
+// read records of one size from standard input, block by block, and write the lines that `lines` makes
+// of each block.
 //
 // Every function here is proved safe and to end. What is read and written is no part of a contract;
 // that a block of lines is the definition's is proved where it is written.

@@ -1,5 +1,5 @@
 // The lines of a root, and of the turns in which it is worked on paper, as `roots` and `root_digits`
-// write them. docs/RULES.md, Lines.
+// write them; and the line of a refusal, which `series` has too. docs/RULES.md, Lines.
 //
 // Every function here is proved, the public ones are total, and the crate assumes nothing.
 use root::Answer;

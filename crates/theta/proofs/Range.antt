@@ -15,10 +15,7 @@ use Rattle.exact.proofs.Most.{whole-held}
 use Rattle.exact.proofs.Constants.{one-some, one-number, one-steps, two-number, two-steps}
 use Rattle.exact.proofs.Coarse.{div-coarse}
 use Rattle.exact.proofs.Sizes.{magnitude-le}
-use Rattle.universal.specs.Series.{inRange}
-use Rattle.universal.specs.Functions.{argumentAt}
-use Rattle.universal.proofs.Worked.{Works}
-use Rattle.universal.proofs.Range.{Small, in-range, small-works}
+use Rattle.universal.proofs.Range.{Small, Taken, small-taken}
 use Rattle.entry.specs.Entry.{largestAngle}
 
 -- ---- 6.25
@@ -60,5 +57,5 @@ angle-finite nan e = absurd (true≢false (sym e))
 angle-finite (inf s) e = absurd (true≢false (sym e))
 angle-finite (fin s m d) e = tt
 
-pub half-works : (a : Float) → T (fits binary64 a) → le (magnitude a) largestAngle ≡ true → (inRange (argumentAt (a ⊘ two) one) ≡ true) × Works (a ⊘ two) one
-half-works a w e = let h = half-angle-small a (w, angle-finite a e) e in (in-range (a ⊘ two) one (h .0) one-number (h .1), small-works (a ⊘ two) one (h .0) one-number (h .1))
+pub half-works : (a : Float) → T (fits binary64 a) → le (magnitude a) largestAngle ≡ true → Taken (a ⊘ two) one
+half-works a w e = let h = half-angle-small a (w, angle-finite a e) e in small-taken (a ⊘ two) one (h .0) one-number (h .1)

@@ -1,6 +1,6 @@
 -- Where |alpha|·x² ≤ 63.5 and |x| ≤ 64, the series' argument alpha·(x/4)² is at most 4 as computed. x/4 and its square are each at most 1025/1024
 -- of the exact result and half a step, and the cube of 1025/1024 is less than 64/63.5. The last rounding costs nothing, since 4 is a number. So the
--- functions are not refused there (`small-works`).
+-- functions are not refused there (`small-taken`).
 use mathlib.Core.Path.{_≡_, refl}
 use mathlib.Core.Bool.{Bool, true, false, not}
 use Prim.Native.Nat.{ℕ, _+_, _*_, _^_, _≤_, _<_}
@@ -24,7 +24,11 @@ pub record Small (x alpha : Float) : Type 0 where
   pub product : 2 * (steps binary64 alpha * (steps binary64 x * steps binary64 x)) ≤ 127 * (inSteps 0 * (inSteps 0 * inSteps 0))
   pub bounded : steps binary64 x ≤ 64 * inSteps 0
 
--- so for what is no larger
+-- |z| ≤ 4, and the functions are not refused
+abbrev pub Taken : (x alpha : Float) → Type 0
+Taken x alpha = (inRange (argumentAt x alpha) ≡ true) × Works x alpha
+
+-- small too is what is no larger
 pub small-within : (x y alpha : Float) → Small y alpha → steps binary64 x ≤ steps binary64 y → Small x alpha
 small-within x y alpha s l = record {
   product = le-trans (mul-le-mul-left 2 (mul-le-mul-left (steps binary64 alpha) (mul-le-mul l l))) (s .product);
@@ -86,8 +90,8 @@ module _ (x alpha : Float) (hx : Number binary64 x) (ha : Number binary64 alpha)
       mul-coarse alpha ((x ⊘ four) ⊗ (x ⊘ four)) ha (square .number) (4 * inSteps 0) (whole-held 4 (lit< tt))
       (at-most-four a (steps binary64 x) y h (inSteps 0) one-some (square-of-quarter (steps binary64 x) y (inSteps 0) one-some (quarter .near)) (square .near) (small .product) (far-below alpha (ha .0)))
 
-  pub in-range : inRange (argumentAt x alpha) ≡ true
+  in-range : inRange (argumentAt x alpha) ≡ true
   in-range = is-true _ (magnitude-le (argumentAt x alpha) four (argument .number) four-plus .1 (rw four-steps (argument .most)))
 
-  pub small-works : Works x alpha
-  small-works = works x alpha in-range
+  pub small-taken : Taken x alpha
+  small-taken = (in-range, works x alpha in-range)

@@ -4,13 +4,12 @@ use mathlib.Core.Path.{_≡_, refl, sym, ap, _∙_}
 use mathlib.Core.Logic.{_⊎_, inl, inr}
 use mathlib.Core.Bool.{Bool, true, false}
 use lib.Ieee.{Float, nan}
-use Rattle.exact.specs.Numbers.{_⊘_}
 use Rattle.exact.proofs.NotANumber.{plus-nan, minus-nan, times-nan}
 use Rattle.rows.specs.Rows.{Checked, pass, refuse, must, onward}
 use Rattle.rows.proofs.Laws.{pass-once, test-passed}
 use Rattle.universal.specs.declared.Functions.{Functions}
-use Rattle.universal.specs.Series.{four, coefficients, worked, inRange, outOfRange, seriesOf, sumsOrNans}
-use Rattle.universal.specs.Functions.{argumentAt, quartered, doubledTwice, functionsAt, workedAt, nans, orNans}
+use Rattle.universal.specs.Series.{coefficients, worked, inRange, outOfRange, seriesOf, sumsOrNans}
+use Rattle.universal.specs.Functions.{argumentAt, functionsBy, functionsAt, workedAt, nans, orNans}
 
 -- the functions at x are not refused
 abbrev pub Works : (x alpha : Float) → Type 0
@@ -24,10 +23,7 @@ module _ (x alpha : Float) where
   unfolding must onward seriesOf functionsAt workedAt
   by-range = go (inRange z)
     where
-      made : (c2 c3 : Float) → Functions
-      made c2 c3 = doubledTwice alpha (quartered (x ⊘ four) alpha c2 c3)
-
-      go : (b : Bool) → onward (must b outOfRange (pass (worked (coefficients 2) z))) (λ c2. onward (must b outOfRange (pass (worked (coefficients 3) z))) (λ c3. pass (made c2 c3))) ≡ must b outOfRange (pass (made (worked (coefficients 2) z) (worked (coefficients 3) z)))
+      go : (b : Bool) → onward (must b outOfRange (pass (worked (coefficients 2) z))) (λ c2. onward (must b outOfRange (pass (worked (coefficients 3) z))) (λ c3. pass (functionsBy x alpha c2 c3))) ≡ must b outOfRange (pass (functionsBy x alpha (worked (coefficients 2) z) (worked (coefficients 3) z)))
       go true = refl
       go false = refl
 
@@ -48,14 +44,14 @@ module _ (x alpha : Float) where
   passed-works e = e ∙ sym (row-passed e .1)
 
   -- what is made of NaNs, and of sums or NaNs
-  of-nans : doubledTwice alpha (quartered (x ⊘ four) alpha nan nan) ≡ nans
+  of-nans : functionsBy x alpha nan nan ≡ nans
   of-nans = simp (times-nan, minus-nan, plus-nan)
 
-  pub of-sums-or-nans : doubledTwice alpha (quartered (x ⊘ four) alpha (sumsOrNans z .c2) (sumsOrNans z .c3)) ≡ orNans (functionsAt x alpha)
+  pub of-sums-or-nans : functionsBy x alpha (sumsOrNans z .c2) (sumsOrNans z .c3) ≡ orNans (functionsAt x alpha)
   unfolding must onward seriesOf functionsAt
   of-sums-or-nans = go (inRange z) refl
     where
-      go : (b : Bool) → inRange z ≡ b → doubledTwice alpha (quartered (x ⊘ four) alpha (sumsOrNans z .c2) (sumsOrNans z .c3)) ≡ orNans (functionsAt x alpha)
+      go : (b : Bool) → inRange z ≡ b → functionsBy x alpha (sumsOrNans z .c2) (sumsOrNans z .c3) ≡ orNans (functionsAt x alpha)
       go true e = rw e refl
       go false e = rw e of-nans
 

@@ -23,23 +23,23 @@ doubledOnce alpha u =
     let u2' = two ⊗ u .u1 ⊗ u .u1 in
     record { u0 = one ⊖ alpha ⊗ u2'; u1 = two ⊗ u .u0 ⊗ u .u1; u2 = u2'; u3 = two ⊗ u .u3 ⊕ two ⊗ (u .u1 ⊗ u .u2) }
 
--- 6: doubled twice
-abbrev pub doubledTwice : Float → Functions → Functions
-doubledTwice alpha u = doubledOnce alpha (doubledOnce alpha u)
+-- 5 and 6: the four functions at x from C2(z) and C3(z): a quarter, doubled twice
+abbrev pub functionsBy : (x alpha c2 c3 : Float) → Functions
+functionsBy x alpha c2 c3 = doubledOnce alpha (doubledOnce alpha (quartered (x ⊘ four) alpha c2 c3))
 
--- 5, 6 and 9: the four functions, refused where the series are
+-- 9: the four functions, refused where the series are
 unfoldable pub functionsAt : (x alpha : Float) → Checked Functions
 functionsAt x alpha =
     let z = argumentAt x alpha in
     onward (seriesOf 2 z) (λ c2.
     onward (seriesOf 3 z) (λ c3.
-    pass (doubledTwice alpha (quartered (x ⊘ four) alpha c2 c3))))
+    pass (functionsBy x alpha c2 c3)))
 
 -- the same whatever z is: what the functions are where they are not refused
 unfoldable pub workedAt : (x alpha : Float) → Functions
 workedAt x alpha =
     let z = argumentAt x alpha in
-    doubledTwice alpha (quartered (x ⊘ four) alpha (worked (coefficients 2) z) (worked (coefficients 3) z))
+    functionsBy x alpha (worked (coefficients 2) z) (worked (coefficients 3) z)
 
 -- 9: functions that are refused stand in a time as NaNs, so that it is not finite
 abbrev pub nans : Functions
