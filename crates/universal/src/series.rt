@@ -1,4 +1,4 @@
-// C2 and C3: RULES, The universal functions 1 to 4. One loop works both, from k = 11 down.
+// C2 and C3: RULES, The universal functions 1 to 4 and 9. One loop works both, from k = 11 down.
 ghost use mathlib.Core.Path.{_≡_};
 ghost use Rattle.universal.specs.Series.{worked, inRange, outOfRange, seriesBy, seriesOf, sumOrNan, sumsOrNans};
 ghost use Rattle.universal.specs.Said.{summed};
