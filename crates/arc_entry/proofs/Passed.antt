@@ -21,7 +21,7 @@ use Rattle.units.proofs.Positive.{unit-plus}
 use Rattle.arc.specs.declared.Transfer.{Transfer}
 use Rattle.arc.specs.declared.Scaled.{Scaled}
 use Rattle.arc.specs.Arc.{timeAt}
-use Rattle.arc_entry.specs.ArcEntry.{factorOf, scaledBy, scaledFrom, scaledOf, thirtySix, startingBracket, startOf, inputNumber, entryOf}
+use Rattle.arc_entry.specs.ArcEntry.{factorOf, scaledBy, scaledFrom, scaledOf, thirtySix, startingBracket, startBy, inputNumber, entryOf}
 
 -- ---- the scaled transfer
 
@@ -60,8 +60,8 @@ pub record Started (o : Scaled) : Type 0 where
   pub last-finite : isFinite (timeAt o thirtySix) ≡ true
   pub last-reaches : lt (timeAt o thirtySix) (o .t) ≡ false
 
-started : (s : Scaled) (e : Scaled × Bracket) → startOf s ≡ pass e → Started s × (e ≡ (s, startingBracket s))
-unfolding startOf
+started : (s : Scaled) (e : Scaled × Bracket) → startBy timeAt s ≡ pass e → Started s × (e ≡ (s, startingBracket s))
+unfolding startBy
 started s e h =
     let t = s .t in
     let low = timeAt s nought in
@@ -89,12 +89,12 @@ unfolding entryOf
 entered q o b h =
     let given = givenTested inputNumber (q .mu) (q .r1) (q .r2) (q .dt) in
     let above = lt nought (q .mu) in
-    let row = onward (scaledOf q) startOf in
+    let row = onward (scaledOf q) (startBy timeAt) in
     let first = rows-passed given (λ finite. must above 2 (must (limitAllowed (q .limit)) 3 row)) h in
     let second = test-passed above 2 (must (limitAllowed (q .limit)) 3 row) (first .2) in
     let third = test-passed (limitAllowed (q .limit)) 3 row (second .1) in
     let range = both (leb 1 (q .limit)) (leb (q .limit) 100) .0 (third .0) in
-    let S = rows-passed (scaledOf q) startOf (third .1) in
+    let S = rows-passed (scaledOf q) (startBy timeAt) (third .1) in
     let o₀ : Scaled = S .0 in
     let numbers = scaled-number q o₀ (passed (second .0)) (S .1) in
     let at-end = started o₀ (o, b) (S .2) in

@@ -9,7 +9,8 @@ use Rattle.units.specs.Units.{radiusOf, unitOf}
 use Rattle.units.proofs.Places.{refuses-first}
 use Rattle.units.proofs.Refusals.{root-refuses, measure-refuses}
 use Rattle.rows.proofs.Laws.{Refuses, passes, must-refuses, onward-refuses}
-use Rattle.arc_entry.specs.ArcEntry.{factorOf, scaledBy, scaledFrom, scaledOf, startOf, inputNumber, entryOf}
+use Rattle.arc.specs.Arc.{timeAt}
+use Rattle.arc_entry.specs.ArcEntry.{factorOf, scaledBy, scaledFrom, scaledOf, startBy, inputNumber, entryOf}
 
 -- what each of the eight numbers has
 pub record Eight (P : ℕ → Type 0) : Type 0 where
@@ -41,8 +42,8 @@ module _ {P : ℕ → Type 0} (e : Eight P) where
       onward-refuses _ _ (measure-refuses 5 6 (radiusOf (q .r1)) (e .p5) (e .p6))
       (λ r0. onward-refuses _ _ (measure-refuses 5 6 (radiusOf (q .r2)) (e .p5) (e .p6)) (λ m2. from-refuses q r0 m2))
 
-  start-refuses : (o : Scaled) → Refuses P (startOf o)
-  unfolding startOf
+  start-refuses : (o : Scaled) → Refuses P (startBy timeAt o)
+  unfolding startBy
   start-refuses o = must-refuses _ 6 _ (e .p6) (must-refuses _ 51 _ (e .p51) (must-refuses _ 6 _ (e .p6) (must-refuses _ 52 _ (e .p52) passes)))
 
   pub entry-refuses : (q : Transfer) → Refuses P (entryOf q)

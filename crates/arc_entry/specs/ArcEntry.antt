@@ -61,25 +61,34 @@ abbrev pub thirtySix : Float
 thirtySix = numberOf 0x4042_0000_0000_0000
 
 -- 14: the starting bracket, each end with its own T. 6 where T(0) is not finite, 51 where t < T(0), the same 6 for T(36), 52 where t > T(36)
-abbrev pub startingBracket : Scaled → Bracket
-startingBracket o = record { lo = record { x = nought; time = timeAt o nought }; hi = record { x = thirtySix; time = timeAt o thirtySix } }
+abbrev pub bracketBy : (first last : Float) → Bracket
+bracketBy first last = record { lo = record { x = nought; time = first }; hi = record { x = thirtySix; time = last } }
 
-unfoldable pub startOf : Scaled → Checked (Scaled × Bracket)
-startOf o =
-    must (isFinite (timeAt o nought)) 6
-    (must (not (lt (o .t) (timeAt o nought))) 51
-    (must (isFinite (timeAt o thirtySix)) 6
-    (must (not (lt (timeAt o thirtySix) (o .t))) 52
-    (pass (o, startingBracket o)))))
+abbrev pub startingBracket : Scaled → Bracket
+startingBracket o = bracketBy (timeAt o nought) (timeAt o thirtySix)
+
+unfoldable pub startBy : (time : Scaled → Float → Float) → Scaled → Checked (Scaled × Bracket)
+startBy time o =
+    let first = time o nought in
+    let last = time o thirtySix in
+    must (isFinite first) 6
+    (must (not (lt (o .t) first)) 51
+    (must (isFinite last) 6
+    (must (not (lt last (o .t))) 52
+    (pass (o, bracketBy first last)))))
 
 -- 1, whatever the place of the number that is not finite
 abbrev pub inputNumber : (place : ℕ) → ℕ
 inputNumber place = 1
 
 -- 1, 2 and 3, then the tests above
-unfoldable pub entryOf : Transfer → Checked (Scaled × Bracket)
-entryOf q =
+abbrev pub entryBy : (time : Scaled → Float → Float) → Transfer → Checked (Scaled × Bracket)
+entryBy time q =
     onward (givenTested inputNumber (q .mu) (q .r1) (q .r2) (q .dt)) (λ finite.
     must (lt nought (q .mu)) 2
     (must (limitAllowed (q .limit)) 3
-    (onward (scaledOf q) startOf)))
+    (onward (scaledOf q) (startBy time))))
+
+-- the time is T
+unfoldable pub entryOf : Transfer → Checked (Scaled × Bracket)
+entryOf q = entryBy timeAt q

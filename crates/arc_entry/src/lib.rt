@@ -17,7 +17,8 @@ use vectors::Vector;
 ghost use mathlib.Core.Path.{_≡_};
 ghost use Rattle.units.specs.Units.{radiusOf, numbered};
 ghost use Rattle.arc_entry.specs.Said.{passedNumber, passedScaled, passedStart};
-ghost use Rattle.arc_entry.specs.ArcEntry.{factorOf, scaledBy, scaledFrom, scaledOf, startOf, entryOf};
+ghost use Rattle.arc_entry.specs.ArcEntry.{factorOf, scaledBy, scaledFrom, scaledOf, startBy, entryOf};
+ghost use Rattle.arc.specs.Arc.{timeAt};
 
 // 2^-20: where 1 - |c| is less, the angle is too near 0, 180 or 360 degrees.
 const NEAREST: f64 = 9.5367431640625e-07;
@@ -147,7 +148,7 @@ fn factor(way: Way, rho: f64, c: f64) -> Number
 
 // The starting bracket, where the wanted time lies between the times of its ends.
 fn started(o: Scaled) -> Start
-    ensures { λ x. ⌜ passedStart x ≡ startOf o ⌝ }
+    ensures { λ x. ⌜ passedStart x ≡ startBy timeAt o ⌝ }
 {
     let t = o.t;
     let first = o.time_at(0.0);

@@ -23,7 +23,7 @@ use Rattle.units.specs.Units.{givenTested, radiusOf, unitOf, numbered}
 use Rattle.units.proofs.Positive.{unit-plus}
 use Rattle.conic.specs.Said.{inputNumber}
 use Rattle.conic.specs.TimeAndRatio.{timeAt}
-use Rattle.entry.specs.Entry.{straight, inputsTested, testedBy, scaledBy, scaledOf, farEndOf, startingBracket, bracketedBy, startOf, entryOf, largestAngle, angleEntryOf}
+use Rattle.entry.specs.Entry.{straight, inputsTested, testedBy, scaledBy, scaledOf, farEndOf, startingBracket, bracketedBy, startBy, entryOf, largestAngle, angleEntryOf}
 use Rattle.rows.proofs.Laws.{pass-once, test-passed, rows-passed}
 
 -- ---- the scaled problem
@@ -100,7 +100,7 @@ above-zero mu r v last h =
     let first = rows-passed (givenTested inputNumber mu r v last) (λ finite. must (lt nought mu) 2 (pass tt)) h in
     passed (test-passed (lt nought mu) 2 (pass tt) (first .2) .0)
 
-bracketed-is : (o : Scaled) (far : Float) (e : Scaled × Bracket) → bracketedBy o far ≡ pass e → Reaches o far × (e ≡ (o, startingBracket (o .t) (pointAt (timeAt o) far)))
+bracketed-is : (o : Scaled) (far : Float) (e : Scaled × Bracket) → bracketedBy o far (timeAt o far) ≡ pass e → Reaches o far × (e ≡ (o, startingBracket (o .t) (pointAt (timeAt o) far)))
 unfolding bracketedBy
 bracketed-is o far e h =
     let short = cond (le nought (o .t)) (lt (timeAt o far) (o .t)) (lt (o .t) (timeAt o far)) in
@@ -110,17 +110,17 @@ bracketed-is o far e h =
     (record { finite = first .0; reaches = not-true short (second .0) }, sym (pass-once (second .1)))
 
 pub entered : (p : Problem) (o : Scaled) (b : Bracket) → entryOf p ≡ pass (o, b) → Entered p o b
-unfolding startOf entryOf
+unfolding startBy entryOf
 entered p o b h =
     let in-range = limitAllowed (p .limit) in
-    let row = onward (scaledOf (p .mu) (p .r) (p .v) (p .dt)) startOf in
+    let row = onward (scaledOf (p .mu) (p .r) (p .v) (p .dt)) (startBy timeAt) in
     let inputs = rows-passed (inputsTested (p .mu) (p .r) (p .v) (p .dt)) (λ good. must in-range 3 row) h in
     let above = above-zero (p .mu) (p .r) (p .v) (p .dt) (inputs .1) in
     let third = test-passed in-range 3 row (inputs .2) in
     let range = both (leb 1 (p .limit)) (leb (p .limit) 100) .0 (third .0) in
-    let S = rows-passed (scaledOf (p .mu) (p .r) (p .v) (p .dt)) startOf (third .1) in
+    let S = rows-passed (scaledOf (p .mu) (p .r) (p .v) (p .dt)) (startBy timeAt) (third .1) in
     let e : Scaled = S .0 in
-    let X = rows-passed (farEndOf (e .alpha)) (λ x. bracketedBy e (cond (le nought (e .t)) x (neg x))) (S .2) in
+    let X = rows-passed (farEndOf (e .alpha)) (λ x. let far = cond (le nought (e .t)) x (neg x) in bracketedBy e far (timeAt e far)) (S .2) in
     let B = bracketed-is e (cond (le nought (e .t)) (X .0) (neg (X .0))) (o, b) (X .2) in
     subst (λ (eb : Scaled × Bracket). Entered p (eb .0) (eb .1)) (sym (B .1)) (record {
       inputs = inputs .1;

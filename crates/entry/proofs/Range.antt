@@ -1,7 +1,7 @@
 -- The functions are not refused in the starting bracket of a problem that passed, ends included (`bracket-works`), nor at the far end, on either
 -- side of 0, of one whose far end is still to be tested (`far-end-works`). The far end is small beside alpha (universal's `Small`), and what lies
--- between it and 0 is no larger. So no refusal of the series, 60, is ever answered as 6 there.
-use mathlib.Core.Path.{_≡_, refl, sym, subst}
+-- between it and 0 is no larger. So the entry tests are those of functions that are worked whatever z is (`worked-entry`).
+use mathlib.Core.Path.{_≡_, refl, sym, ap, subst}
 use mathlib.Core.Bool.{Bool, true, false, cond}
 use Prim.Native.Nat.{ℕ, _≤_, zero-le}
 use native.Mathlib.Nat.{le-of-eq}
@@ -11,16 +11,19 @@ use Rattle.exact.proofs.Basics.{both}
 use Rattle.exact.proofs.Zero.{nought-steps}
 use Rattle.exact.proofs.Arithmetic.{neg-number}
 use Rattle.exact.proofs.Sizes.{between-most}
-use Rattle.rows.specs.Rows.{pass}
+use Rattle.rows.specs.Rows.{pass, must, onward}
+use Rattle.rows.proofs.Laws.{onward-same}
 use Rattle.search.specs.declared.Point.{Point}
 use Rattle.search.specs.declared.Bracket.{Bracket}
+use Rattle.search.specs.Search.{limitAllowed}
 use Rattle.search.proofs.Hunt.{pointAt}
 use Rattle.search.proofs.Laws.{In}
 use Rattle.conic.specs.declared.Problem.{Problem}
 use Rattle.conic.specs.declared.Scaled.{Scaled}
 use Rattle.conic.specs.TimeAndRatio.{timeAt}
+use Rattle.conic.proofs.Worked.{workedTime, worked-time}
 use Rattle.universal.proofs.Range.{Taken, small-within, small-taken}
-use Rattle.entry.specs.Entry.{inputsTested, scaledOf, zeroEnd, farEndOf}
+use Rattle.entry.specs.Entry.{inputsTested, scaledOf, zeroEnd, farEndOf, bracketedBy, startBy, entryBy, entryOf}
 use Rattle.entry.proofs.Passed.{Entered, above-zero, scaled-is}
 use Rattle.entry.proofs.FarEnd.{far-end-is}
 use Rattle.entry.proofs.Fair.{fair}
@@ -63,3 +66,24 @@ bracket-works p o b e x (number, i) =
     let ends = subst (Ends (steps binary64 X)) (sym (e .bracket-is)) (ends-size u (pointAt (timeAt o) (cond u X (neg X))) (steps binary64 X) (far-size u X (f .number))) in
     let between = both (le (b .lo .x) x) (le x (b .hi .x)) .0 i in
     small-taken x (o .alpha) number (e .numbers .alpha-number) (small-within x X (o .alpha) (f .small) (between-most binary64 (b .lo .x) x (b .hi .x) (steps binary64 X) (s .lo-number) number (s .hi-number) (ends .0) (ends .1) (between .0) (between .1)))
+
+-- ---- the entry tests
+
+-- on either side
+at-far : (b : Bool) (o : Scaled) (X : Float) → Taken X (o .alpha) × Taken (neg X) (o .alpha) → timeAt o (cond b X (neg X)) ≡ workedTime o (cond b X (neg X))
+at-far true o X t = worked-time o X (t .0 .1)
+at-far false o X t = worked-time o (neg X) (t .1 .1)
+
+start-worked : (o : Scaled) → ((X : Float) → farEndOf (o .alpha) ≡ pass X → Taken X (o .alpha) × Taken (neg X) (o .alpha)) → startBy timeAt o ≡ startBy workedTime o
+unfolding startBy
+start-worked o works =
+    let far : Float → Float = λ X. cond (le nought (o .t)) X (neg X) in
+    onward-same (farEndOf (o .alpha)) (λ X. bracketedBy o (far X) (timeAt o (far X))) (λ X. bracketedBy o (far X) (workedTime o (far X)))
+    (λ X e. ap (bracketedBy o (far X)) (at-far (le nought (o .t)) o X (works X e)))
+
+pub worked-entry : (p : Problem) → entryOf p ≡ entryBy workedTime p
+unfolding entryOf
+worked-entry p =
+    let scaled = scaledOf (p .mu) (p .r) (p .v) (p .dt) in
+    onward-same (inputsTested (p .mu) (p .r) (p .v) (p .dt)) (λ good. must (limitAllowed (p .limit)) 3 (onward scaled (startBy timeAt))) (λ good. must (limitAllowed (p .limit)) 3 (onward scaled (startBy workedTime)))
+    (λ good i. ap (must (limitAllowed (p .limit)) 3) (onward-same scaled (startBy timeAt) (startBy workedTime) (λ o s. start-worked o (λ X e. far-end-works p o X i s e))))

@@ -14,8 +14,9 @@ use Rattle.exact.proofs.Basics.{passed, both}
 use Rattle.vectors.specs.declared.Vector.{Vector}
 use Rattle.conic.specs.declared.Problem.{Problem}
 use Rattle.conic.specs.declared.Scaled.{Scaled}
+use Rattle.conic.specs.TimeAndRatio.{timeAt}
 use Rattle.conic.specs.Said.{problemNumbers, inputNumber, inputs, isInput}
-use Rattle.entry.specs.Entry.{inputsTested, testedBy, scaledBy, scaledOf, sixtyFourth, farEndOf, bracketedBy, startOf, entryOf, angleEntryOf}
+use Rattle.entry.specs.Entry.{inputsTested, testedBy, scaledBy, scaledOf, sixtyFourth, farEndOf, bracketedBy, startBy, entryOf, angleEntryOf}
 use Rattle.units.specs.Units.{radiusOf, unitOf}
 use Rattle.vectors.specs.Vectors.{numbersGiven}
 use Rattle.units.proofs.Places.{FirstNotFinite, refuses-first, first-refused}
@@ -59,19 +60,19 @@ module _ {P : ℕ → Type 0} (o : Others P) where
   far-end-refuses alpha = cond-refuses (le (magnitude alpha) sixtyFourth) _ _ passes (onward-refuses _ _ (root-refuses 14 _ (o .p14)) (λ k. passes))
 
   module _ (p3 : P 3) (p8 : P 8) where
-    bracket-refuses : (s : Scaled) (far : Float) → Refuses P (bracketedBy s far)
+    bracket-refuses : (s : Scaled) (far time : Float) → Refuses P (bracketedBy s far time)
     unfolding bracketedBy
-    bracket-refuses s far = must-refuses _ 6 _ (o .p6) (must-refuses _ 8 _ p8 passes)
+    bracket-refuses s far time = must-refuses _ 6 _ (o .p6) (must-refuses _ 8 _ p8 passes)
 
-    start-refuses : (s : Scaled) → Refuses P (startOf s)
-    unfolding startOf
-    start-refuses s = onward-refuses _ _ (far-end-refuses (s .alpha)) (λ x. bracket-refuses s _)
+    start-refuses : (time : Scaled → Float → Float) (s : Scaled) → Refuses P (startBy time s)
+    unfolding startBy
+    start-refuses time s = onward-refuses _ _ (far-end-refuses (s .alpha)) (λ x. bracket-refuses s _ _)
 
     pub entry-refuses : (p : Problem) → AtFirst P (problemNumbers p) → Refuses P (entryOf p)
     unfolding entryOf
     entry-refuses p at-first =
         onward-refuses _ _ (inputs-refuse (p .mu) (p .r) (p .v) (p .dt) at-first)
-        (λ good. must-refuses _ 3 _ p3 (onward-refuses _ _ (scaled-refuses (p .mu) (p .r) (p .v) (p .dt)) start-refuses))
+        (λ good. must-refuses _ 3 _ p3 (onward-refuses _ _ (scaled-refuses (p .mu) (p .r) (p .v) (p .dt)) (start-refuses timeAt)))
 
   pub angle-entry-refuses : P 4 → (mu : Float) (r v : Vector) (a : Float) → AtFirst P (numbersGiven mu r v a) → Refuses P (angleEntryOf mu r v a)
   unfolding angleEntryOf

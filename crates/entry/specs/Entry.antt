@@ -76,23 +76,30 @@ abbrev pub startingBracket : (t : Float) (far : Point) → Bracket
 startingBracket t far = cond (le nought t) (record { lo = zeroEnd; hi = far }) (record { lo = far; hi = zeroEnd })
 
 -- Refusal numbers, note a: 6 where T at the far end is not finite, right before 8. Refusal 8: t ≥ 0 and T(X) < t, or t < 0 and T(-X) > t
-unfoldable pub bracketedBy : Scaled → (far : Float) → Checked (Scaled × Bracket)
-bracketedBy o far =
+unfoldable pub bracketedBy : Scaled → (far time : Float) → Checked (Scaled × Bracket)
+bracketedBy o far time =
     let t = o .t in
-    let time = timeAt o far in
     must (isFinite time) 6
     (must (not (cond (le nought t) (lt time t) (lt t time))) 8
     (pass (o, startingBracket t (record { x = far; time = time }))))
 
-unfoldable pub startOf : Scaled → Checked (Scaled × Bracket)
-startOf o = onward (farEndOf (o .alpha)) (λ x. bracketedBy o (cond (le nought (o .t)) x (neg x)))
+-- the far end on its side of 0, with its time there
+unfoldable pub startBy : (time : Scaled → Float → Float) → Scaled → Checked (Scaled × Bracket)
+startBy time o =
+    onward (farEndOf (o .alpha)) (λ x.
+    let far = cond (le nought (o .t)) x (neg x) in
+    bracketedBy o far (time o far))
 
 -- Kepler: 101 to 108, 2, then 3 where the limit is none of 1..100, and the tests above
-unfoldable pub entryOf : Problem → Checked (Scaled × Bracket)
-entryOf p =
+abbrev pub entryBy : (time : Scaled → Float → Float) → Problem → Checked (Scaled × Bracket)
+entryBy time p =
     onward (inputsTested (p .mu) (p .r) (p .v) (p .dt)) (λ good.
     must (limitAllowed (p .limit)) 3
-    (onward (scaledOf (p .mu) (p .r) (p .v) (p .dt)) startOf))
+    (onward (scaledOf (p .mu) (p .r) (p .v) (p .dt)) (startBy time)))
+
+-- the time is T
+unfoldable pub entryOf : Problem → Checked (Scaled × Bracket)
+entryOf p = entryBy timeAt p
 
 abbrev pub largestAngle : Float
 largestAngle = numberOf 0x4019_0000_0000_0000

@@ -16,7 +16,8 @@ use units::TimeUnit;
 use vectors::Vector;
 ghost use mathlib.Core.Path.{_≡_};
 ghost use Rattle.entry.specs.Said.{passedInputs, passedNumber, passedScaled, passedStart};
-ghost use Rattle.entry.specs.Entry.{inputsTested, testedBy, scaledBy, scaledOf, farEndOf, bracketedBy, startOf, entryOf, angleEntryOf};
+ghost use Rattle.entry.specs.Entry.{inputsTested, testedBy, scaledBy, scaledOf, farEndOf, bracketedBy, startBy, entryOf, angleEntryOf};
+ghost use Rattle.conic.specs.TimeAndRatio.{timeAt};
 
 // 2^-20: a smaller p is a straight line.
 const STRAIGHT: f64 = 9.5367431640625e-07;
@@ -176,7 +177,7 @@ fn far_end(alpha: f64) -> Number
 
 // The starting bracket, where the far end is not short of the wanted time.
 fn started(o: Scaled) -> Start
-    ensures { λ x. ⌜ passedStart x ≡ startOf o ⌝ }
+    ensures { λ x. ⌜ passedStart x ≡ startBy timeAt o ⌝ }
 {
     match far_end(o.alpha) {
         Number::Refused(why) => Start::Refused(why),
@@ -191,7 +192,7 @@ fn started(o: Scaled) -> Start
 }
 
 fn bracketed(o: Scaled, far: f64) -> Start
-    ensures { λ x. ⌜ passedStart x ≡ bracketedBy o far ⌝ }
+    ensures { λ x. ⌜ passedStart x ≡ bracketedBy o far (timeAt o far) ⌝ }
 {
     let t = o.t;
     let time = o.time_at(far);

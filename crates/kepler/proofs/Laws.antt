@@ -1,8 +1,8 @@
 -- The laws of Kepler's answers: those of any search (`crates/search/proofs/Answers.antt`), of the time of a scaled problem that passed the entry
 -- tests and of the state that x unfolds to. Every number of a refusal is above 1 and at most 108 (`refusal-numbered`); one of
 -- 101 to 108 names the first number given that is not finite, and each such one is named (`names-first`, `first-named`). No guess comes to functions
--- that are refused: the answer is that of the functions as they are worked whatever z is (`worked-answer`).
-use mathlib.Core.Path.{_≡_, refl}
+-- that are refused, and neither does the far end: the answer is that of the functions as they are worked whatever z is (`worked-answer`).
+use mathlib.Core.Path.{_≡_, refl, ap, _∙_}
 use Prim.Native.Nat.{ℕ, _≤_}
 use lib.Ieee.{Float}
 use Rattle.search.specs.declared.Bracket.{Bracket}
@@ -21,11 +21,11 @@ use Rattle.conic.specs.Unfolding.{arrivalAt}
 use Rattle.conic.proofs.Worked.{workedTime, workedArrival, worked-time, worked-arrival}
 use Rattle.conic.proofs.Arrival.{arrival-refuses}
 use Rattle.units.proofs.Places.{FirstNotFinite}
-use Rattle.entry.specs.Entry.{entryOf}
+use Rattle.entry.specs.Entry.{entryBy, entryOf}
 use Rattle.entry.proofs.Refusals.{Others, AtFirst, entry-refuses, Numbered, others-numbered, first-numbered, NamesFirst, no-input, others-name, first-names, first-refuses}
 use Rattle.entry.proofs.Passed.{entered}
 use Rattle.entry.proofs.Fair.{fair}
-use Rattle.entry.proofs.Range.{bracket-works}
+use Rattle.entry.proofs.Range.{bracket-works, worked-entry}
 use Rattle.kepler.specs.Kepler.{wantedTime, keplerOf}
 
 abbrev pub IsSolved : Problem → (x : Float) → State → Type 0
@@ -74,7 +74,8 @@ module _ (p : Problem) where
   unfolding keplerOf
   bracket-means = search.bracket-means timeAt wantedTime arrivalAt (p .limit) (entryOf p) least starts-fair
 
-  pub worked-answer : keplerOf p ≡ answerFrom workedTime wantedTime workedArrival (p .limit) (entryOf p)
+  pub worked-answer : keplerOf p ≡ answerFrom workedTime wantedTime workedArrival (p .limit) (entryBy workedTime p)
   unfolding keplerOf
   worked-answer = search.same-answer timeAt wantedTime arrivalAt (p .limit) (entryOf p) least starts-fair workedTime workedArrival
       (λ o b h x i. let works = bracket-works p o b (entered p o b h) x i .1 in (worked-time o x works, worked-arrival o x works))
+      ∙ ap (answerFrom workedTime wantedTime workedArrival (p .limit)) (worked-entry p)

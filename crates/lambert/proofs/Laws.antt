@@ -1,8 +1,8 @@
 -- The laws of a transfer's answers: those of any search (`crates/search/proofs/Answers.antt`), of the time along the arc and of the velocity that z
 -- comes to. A refusal's number is 9 or 10 where it names a bracket, and else one of eight (`refusal-numbered`); a solved z and a named bracket lie
--- in 0 to 36 (`solved-between`, `named-between`). No guess comes to functions that are refused: the answer is that of the functions as they are
--- worked whatever z is (`worked-answer`).
-use mathlib.Core.Path.{_≡_}
+-- in 0 to 36 (`solved-between`, `named-between`). Neither an end nor a guess comes to functions that are refused: the answer is that of the
+-- functions as they are worked whatever z is (`worked-answer`).
+use mathlib.Core.Path.{_≡_, ap, _∙_}
 use mathlib.Core.Bool.{true}
 use Prim.Native.Nat.{ℕ, _≤_}
 use lib.Ieee.{Float, le}
@@ -21,11 +21,11 @@ use Rattle.arc.specs.declared.Scaled.{Scaled}
 use Rattle.arc.specs.Arc.{timeAt, velocityAt}
 use Rattle.arc.proofs.Departing.{velocity-refuses}
 use Rattle.arc.proofs.Worked.{workedTime, workedVelocity, worked-time, worked-velocity}
-use Rattle.arc_entry.specs.ArcEntry.{thirtySix, entryOf}
+use Rattle.arc_entry.specs.ArcEntry.{thirtySix, entryBy, entryOf}
 use Rattle.arc_entry.proofs.Refusals.{Eight, entry-refuses}
 use Rattle.arc_entry.proofs.Passed.{entered}
 use Rattle.arc_entry.proofs.Fair.{fair, in-start-between}
-use Rattle.arc_entry.proofs.Range.{bracket-works}
+use Rattle.arc_entry.proofs.Range.{bracket-works, worked-entry}
 use Rattle.lambert.specs.Lambert.{wantedTime, lambertOf}
 
 abbrev pub IsSolved : Transfer → (z : Float) → Vector → Type 0
@@ -74,9 +74,9 @@ module _ (q : Transfer) where
   pub named-between : {k n : ℕ} {lo hi : Float} → IsNamed q k n lo hi → (le nought lo ≡ true) × (le hi thirtySix ≡ true)
   named-between {lo = lo} {hi = hi} s = (between (s .entry) lo (s .lo-in) .0, between (s .entry) hi (s .hi-in) .1)
 
-  pub worked-answer : lambertOf q ≡ answerFrom workedTime wantedTime workedVelocity (q .limit) (entryOf q)
+  pub worked-answer : lambertOf q ≡ answerFrom workedTime wantedTime workedVelocity (q .limit) (entryBy workedTime q)
   unfolding lambertOf
-  worked-answer = search.same-answer timeAt wantedTime velocityAt (q .limit) (entryOf q) least starts-fair workedTime workedVelocity same
+  worked-answer = search.same-answer timeAt wantedTime velocityAt (q .limit) (entryOf q) least starts-fair workedTime workedVelocity same ∙ ap (answerFrom workedTime wantedTime workedVelocity (q .limit)) (worked-entry q)
     where
       same : (o : Scaled) (b : Bracket) → entryOf q ≡ pass (o, b) → (z : Float) → In b z → (timeAt o z ≡ workedTime o z) × (velocityAt o z ≡ workedVelocity o z)
       same o b h z i =

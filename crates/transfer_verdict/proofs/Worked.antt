@@ -1,6 +1,6 @@
--- The verdict on a solved transfer does not come to functions that are refused: where its z lies in 0 to 36, T and the velocity there are those of
--- the functions as they are worked whatever z is. So no refusal of the series, 60, is ever the verdict 6.
-use mathlib.Core.Path.{_≡_}
+-- The verdict on a solved transfer does not come to functions that are refused, at an end of the bracket or at its z, which is looked at in 0 to 36
+-- alone: it is that of the functions as they are worked whatever z is. So no refusal of the series, 60, is ever the verdict 6.
+use mathlib.Core.Path.{_≡_, ap, _∙_}
 use mathlib.Core.Bool.{true}
 use mathlib.Core.List.{List}
 use Prim.Native.Nat.{ℕ}
@@ -15,10 +15,10 @@ use Rattle.arc.specs.declared.Transfer.{Transfer}
 use Rattle.arc.specs.declared.Scaled.{Scaled}
 use Rattle.arc.specs.Arc.{timeAt, velocityAt}
 use Rattle.arc.proofs.Worked.{workedTime, workedVelocity, worked-time, worked-velocity}
-use Rattle.arc_entry.specs.ArcEntry.{entryOf}
+use Rattle.arc_entry.specs.ArcEntry.{entryBy, entryOf}
 use Rattle.arc_entry.proofs.Passed.{entered}
 use Rattle.arc_entry.proofs.Fair.{fair, in-start-between}
-use Rattle.arc_entry.proofs.Range.{bracket-works}
+use Rattle.arc_entry.proofs.Range.{bracket-works, worked-entry}
 use Rattle.card.specs.Fields.{answerAt, transferOf, zOf}
 use Rattle.compared.specs.Compared.{answeredBy}
 use Rattle.compared.proofs.Answered.{x-finite, answered-same}
@@ -45,6 +45,8 @@ module _ (body : List ℕ) where
     unfolding atZ
     at-z (o, start) h = answered-same (timeAt o) (o .t) (velocityAt o) (sameVelocity body) start z (workedTime o) (workedVelocity o) (o .f4) (alike o start h)
 
-  pub worked-card : transferCard body ≡ onward (transferOf body) (λ q. onward (entryOf q) workedAtZ)
+  pub worked-card : transferCard body ≡ onward (transferOf body) (λ q. onward (entryBy workedTime q) workedAtZ)
   unfolding transferCard
-  worked-card = onward-same (transferOf body) (λ q. onward (entryOf q) (λ e. atZ body (e .0) (e .1))) (λ q. onward (entryOf q) workedAtZ) (λ q h. onward-same (entryOf q) (λ e. atZ body (e .0) (e .1)) workedAtZ (at-z q))
+  worked-card =
+      onward-same (transferOf body) (λ q. onward (entryOf q) (λ e. atZ body (e .0) (e .1))) (λ q. onward (entryBy workedTime q) workedAtZ)
+      (λ q h. onward-same (entryOf q) (λ e. atZ body (e .0) (e .1)) workedAtZ (at-z q) ∙ ap (λ (c : Checked (Scaled × Bracket)). onward c workedAtZ) (worked-entry q))

@@ -11,7 +11,7 @@ use Rattle.universal.specs.Functions.{functionsAt}
 use Rattle.conic.specs.TimeAndRatio.{timeAt}
 use Rattle.conic.specs.Unfolding.{unfolded, arrivalOf, arrivalAt}
 use Rattle.units.specs.Units.{finiteFrom, radiusOf, unitOf, rooted}
-use Rattle.entry.specs.Entry.{inputsTested, testedBy, scaledBy, scaledOf, farEndOf, bracketedBy, startOf, entryOf}
+use Rattle.entry.specs.Entry.{inputsTested, testedBy, scaledBy, scaledOf, farEndOf, bracketedBy, startBy, entryOf}
 use Rattle.kepler.specs.Kepler.{keplerOf}
 use Rattle.spelled.specs.Spelled.{bytesOf}
 use Rattle.words.specs.Words.{value, valueAt, wordsBytes}
@@ -26,5 +26,5 @@ use Rattle.listing.specs.Listing.{cardLines, listingOf}
 use Rattle.trials.specs.Table.{AllHold, table}
 
 pub all-hold : AllHold table
-unfolding round add sub mul div neg lt le eq ne ofInt ofBits toBits magnitude isNear steps wholeRoot radicand nearestRoot rootOf firstGuess narrowedBy nextGuess hunt searchOf must onward coefficients workedFrom worked seriesOf functionsAt timeAt unfolded arrivalOf arrivalAt finiteFrom inputsTested rooted radiusOf unitOf testedBy scaledBy scaledOf farEndOf bracketedBy startOf entryOf keplerOf value valueAt bytesOf wordsBytes kindOf kindNumber sizeOf problemOf timedBy foundBy answeredBy atX solvedCard refusedCard verdictOn entryIn cardsFrom cardsOf entriesFrom bodiesOf deckOf countedAll residualsOf decimal hex cardLines listingOf
+unfolding round add sub mul div neg lt le eq ne ofInt ofBits toBits magnitude isNear steps wholeRoot radicand nearestRoot rootOf firstGuess narrowedBy nextGuess hunt searchOf must onward coefficients workedFrom worked seriesOf functionsAt timeAt unfolded arrivalOf arrivalAt finiteFrom inputsTested rooted radiusOf unitOf testedBy scaledBy scaledOf farEndOf bracketedBy startBy entryOf keplerOf value valueAt bytesOf wordsBytes kindOf kindNumber sizeOf problemOf timedBy foundBy answeredBy atX solvedCard refusedCard verdictOn entryIn cardsFrom cardsOf entriesFrom bodiesOf deckOf countedAll residualsOf decimal hex cardLines listingOf
 all-hold = (refl, (refl, (refl, (refl, (refl, (refl, (refl, (refl, (refl, (refl, (refl, (refl, (refl, (refl, (refl, (refl, (refl, tt)))))))))))))))))

@@ -1,6 +1,6 @@
--- The verdict on a solved card does not come to functions that are refused: where its x lies in the starting bracket, T and the arrival there are
--- those of the functions as they are worked whatever z is. So no refusal of the series, 60, is ever the verdict 6.
-use mathlib.Core.Path.{_≡_, ap}
+-- The verdict on a solved card does not come to functions that are refused, at the far end of its problem or at its x, which is looked at in the
+-- starting bracket alone: it is that of the functions as they are worked whatever z is. So no refusal of the series, 60, is ever the verdict 6.
+use mathlib.Core.Path.{_≡_, ap, _∙_}
 use mathlib.Core.Bool.{true}
 use mathlib.Core.List.{List}
 use Prim.Native.Nat.{ℕ}
@@ -16,9 +16,9 @@ use Rattle.conic.specs.declared.Scaled.{Scaled}
 use Rattle.conic.specs.TimeAndRatio.{timeAt}
 use Rattle.conic.specs.Unfolding.{arrivalAt}
 use Rattle.conic.proofs.Worked.{workedTime, workedArrival, worked-time, worked-arrival}
-use Rattle.entry.specs.Entry.{entryOf}
+use Rattle.entry.specs.Entry.{entryBy, entryOf}
 use Rattle.entry.proofs.Passed.{entered}
-use Rattle.entry.proofs.Range.{bracket-works}
+use Rattle.entry.proofs.Range.{bracket-works, worked-entry}
 use Rattle.card.specs.Fields.{answerAt, problemOf, spareOf, xOf}
 use Rattle.compared.specs.Compared.{answeredBy}
 use Rattle.compared.proofs.Answered.{x-finite, answered-same}
@@ -43,6 +43,6 @@ module _ (body : List ℕ) where
   unfolding atX
   at-x (o, start) h = answered-same (timeAt o) (o .t) (arrivalAt o) (sameState body) start x (workedTime o) (workedArrival o) (o .f4) (alike o start h)
 
-  pub worked-card : solvedCard body ≡ must (eqb (spareOf body) 0) 23 (onward (entryOf (problemOf body)) workedAtX)
+  pub worked-card : solvedCard body ≡ must (eqb (spareOf body) 0) 23 (onward (entryBy workedTime (problemOf body)) workedAtX)
   unfolding solvedCard
-  worked-card = ap (must (eqb (spareOf body) 0) 23) (onward-same (entryOf (problemOf body)) (λ e. atX body (e .0) (e .1)) workedAtX at-x)
+  worked-card = ap (must (eqb (spareOf body) 0) 23) (onward-same (entryOf (problemOf body)) (λ e. atX body (e .0) (e .1)) workedAtX at-x ∙ ap (λ (c : Checked (Scaled × Bracket)). onward c workedAtX) (worked-entry (problemOf body)))

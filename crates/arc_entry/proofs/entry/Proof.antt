@@ -13,7 +13,8 @@ use Rattle.units.specs.Units.{givenTested}
 use Rattle.units.specs.Said.{givenSaid}
 use Rattle.units.proofs.Places.{again, given-again}
 use Rattle.arc_entry.specs.Said.{passedScaled}
-use Rattle.arc_entry.specs.ArcEntry.{scaledOf, startOf, inputNumber, entryOf}
+use Rattle.arc.specs.Arc.{timeAt}
+use Rattle.arc_entry.specs.ArcEntry.{scaledOf, startBy, inputNumber, entryOf}
 use Rattle.arc_entry.proofs.entry.Statement.{statement}
 use Rattle.arc_entry.proofs.entry.Tie as tie
 
@@ -42,7 +43,7 @@ unfolding must onward entryOf
 returns-3 c = rw (good (c .before .before .before .before), above (c .before .before), sym (c .before .allows .ensures) ∙ not-true (c .before .allows .result) (c .if2 .taken)) refl
 
 -- past the third the scaled transfer is wanted
-left : (c : tie.Else2) → entryOf (c .before .before .before .before .before .before .before .before .before .args .q) ≡ onward (scaledOf (c .before .before .before .before .before .before .before .before .before .args .q)) startOf
+left : (c : tie.Else2) → entryOf (c .before .before .before .before .before .before .before .before .before .args .q) ≡ onward (scaledOf (c .before .before .before .before .before .before .before .before .before .args .q)) (startBy timeAt)
 unfolding must onward entryOf
 left c = rw (good (c .before .before .before .before), above (c .before .before), sym (c .before .allows .ensures) ∙ not-false (c .before .allows .result) (c .if2 .left)) refl
 
