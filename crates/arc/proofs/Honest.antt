@@ -5,7 +5,7 @@ use mathlib.Core.Path.{_≡_, refl, sym, ap, _∙_}
 use mathlib.Core.Logic.{_⊎_, inl, inr}
 use mathlib.Core.Bool.{true, true≢false}
 use lib.Ieee.{Float, nan}
-use Rattle.exact.specs.Numbers.{_⊕_, _⊖_, _⊗_, _⊘_, one, isFinite}
+use Rattle.exact.specs.Numbers.{_⊕_, _⊖_, _⊗_, one, isFinite}
 use Rattle.exact.proofs.NotANumber.{plus-nan, minus-nan, times-nan, over-nan}
 use Rattle.root.specs.Said as root
 use Rattle.root.specs.Root.{rootOf}

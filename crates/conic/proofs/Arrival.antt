@@ -11,7 +11,7 @@ use Rattle.conic.specs.declared.State.{State}
 use Rattle.conic.specs.declared.Scaled.{Scaled}
 use Rattle.vectors.specs.Vectors.{allFinite}
 use Rattle.universal.specs.declared.Functions.{Functions}
-use Rattle.universal.specs.Functions.{functionsAt, workedAt, ratioOf}
+use Rattle.universal.specs.Functions.{functionsAt, ratioOf}
 use Rattle.universal.proofs.Worked.{Works, passed-is, passed-works}
 use Rattle.conic.specs.TimeAndRatio.{ratioAt}
 use Rattle.conic.specs.Unfolding.{leastRatio, arrivalOf, stateAt, arrivalAt}

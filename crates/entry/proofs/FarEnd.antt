@@ -186,6 +186,3 @@ far-end alpha h = go (le (magnitude alpha) sixtyFourth) refl
 -- whatever passes as the far end is that one
 pub far-end-is : (alpha x : Float) → Number binary64 alpha → farEndOf alpha ≡ pass x → IsFarEnd alpha x
 far-end-is alpha x h e = let f = far-end alpha h in let same : f .0 ≡ x = cc in subst (IsFarEnd alpha) same (f .2)
-
-pub far-small : (alpha X : Float) → Number binary64 alpha → farEndOf alpha ≡ pass X → Small X alpha
-far-small alpha X h e = far-end-is alpha X h e .small

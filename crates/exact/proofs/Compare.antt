@@ -1,5 +1,5 @@
 -- Comparisons by themselves: below excludes above, for NaN and infinities too; at most is transitive; between finite numbers all is
--- finite.
+-- finite, and so is what is no larger than one.
 use mathlib.Core.Path.{_≡_, refl, sym, ap}
 use mathlib.Core.Bool.{Bool, true, false, not, true≢false}
 use Prim.Native.Nat.{ℕ, _*_}
@@ -7,7 +7,7 @@ use native.Mathlib.Nat as nat
 use borrow.Author.Tests.{ltb-true, le-ltb, not-true}
 use lib.Dec.{T}
 use lib.Ieee.{Float, nan, inf, fin, Format, up, down, below, lt, eq, le}
-use Rattle.exact.specs.Numbers.{isFinite, Number}
+use Rattle.exact.specs.Numbers.{isFinite, Number, magnitude}
 use Rattle.exact.proofs.Basics.{or-l}
 use Rattle.exact.proofs.Order.{le-place}
 
@@ -49,3 +49,11 @@ finite-between x (inf false) nan a c p q = absurd c
 finite-between x (inf false) (inf s) a c p q = absurd c
 finite-between x (inf false) (fin s m e) a c p q = absurd q
 finite-between x (fin s m e) z a c p q = tt
+
+pub bounded-finite : (x y : Float) → T (isFinite y) → T (le (magnitude x) y) → T (isFinite x)
+unfolding magnitude le lt eq
+bounded-finite nan y f h = absurd h
+bounded-finite (inf s) nan f h = absurd f
+bounded-finite (inf s) (inf t) f h = absurd f
+bounded-finite (inf s) (fin t n d) f h = absurd h
+bounded-finite (fin s m e) y f h = tt

@@ -25,13 +25,13 @@ two-plus : isMinus two ≡ false
 unfolding ofBits
 two-plus = refl
 
-two-steps : 2 ^ low binary64 < steps binary64 two
+more-than-one : 2 ^ low binary64 < steps binary64 two
 unfolding steps ofBits
-two-steps = lit< tt
+more-than-one = lit< tt
 
 -- not minus, and no more than the number
 half-within : (x : Float) → Number binary64 x → isMinus x ≡ false → AtMost (steps binary64 x) (x ⊘ two)
-half-within x h plus = div-most x two (h, plus) (two-number, two-plus) (steps binary64 x) (steps-held x (h .0)) (lt-of-le-of-lt zero-le two-steps) (mul-le-mul-left (steps binary64 x) (le-of-lt two-steps))
+half-within x h plus = div-most x two (h, plus) (two-number, two-plus) (steps binary64 x) (steps-held x (h .0)) (lt-of-le-of-lt zero-le more-than-one) (mul-le-mul-left (steps binary64 x) (le-of-lt more-than-one))
 
 -- ---- forwards
 

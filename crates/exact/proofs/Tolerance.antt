@@ -12,6 +12,7 @@ use lib.Ieee.{Float, nan, inf, fin, binary64, low, fits, neg, add, sub, lt, eq, 
 use lib.Ieee.Fits.{sub-fits}
 use lib.Ieee.Bits.{ofBits-fits}
 use Rattle.exact.specs.Numbers.{_⊖_, numberOf, tolerance, isFinite, Number, magnitude, isNear, isMinus, steps, distance, gap, inSteps, mostGap}
+use Rattle.exact.proofs.Compare.{bounded-finite}
 use Rattle.exact.proofs.Basics.{not-below}
 use Rattle.exact.proofs.Rounding.{rounded, nothing-nearer, rounded-le}
 use Rattle.exact.proofs.Order.{plus-le, round-le}
@@ -35,15 +36,9 @@ near-finite (fin s m e) (inf t) h = absurd h
 near-finite (fin s m e) (fin t n d) h = (tt, tt)
 
 -- and so is their difference
-small-finite : (z : Float) → T (le (magnitude z) tolerance) → T (isFinite z)
-unfolding magnitude le lt eq ofBits
-small-finite nan h = absurd h
-small-finite (inf s) h = absurd h
-small-finite (fin s m e) h = tt
-
 near-difference : (x y : Float) → T (isNear x y) → T (isFinite (x ⊖ y))
-unfolding isNear
-near-difference x y h = small-finite (x ⊖ y) h
+unfolding isNear ofBits
+near-difference x y h = bounded-finite (x ⊖ y) tolerance tt h
 
 -- ---- the tolerance, and the number next above it
 

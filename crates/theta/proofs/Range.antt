@@ -1,15 +1,16 @@
 -- The functions are not refused at half of an angle that Theta takes (`half-works`): |a| ≤ 6.25, so half of it is at most 4 as computed, and its
 -- square at most 16 (universal's `Small`).
-use mathlib.Core.Path.{_≡_, refl, sym}
-use mathlib.Core.Bool.{true, true≢false}
+use mathlib.Core.Path.{_≡_, refl}
+use mathlib.Core.Bool.{true}
 use Prim.Native.Nat.{ℕ, _*_, _≤_}
 use native.Mathlib.Nat.{mul-pos, mul-le-mul, mul-le-mul-left, mul-le-mul-right}
 use native.Mathlib.Omega.{arith}
 use lib.Dec.{T, lit<}
-use lib.Ieee.{Float, nan, inf, fin, binary64, lt, le, eq, fits, ofBits}
+use lib.Ieee.{Float, binary64, le, fits, ofBits}
 use lib.Ieee.Bits.{ofBits-fits}
-use Rattle.exact.specs.Numbers.{_⊘_, one, two, isFinite, Number, magnitude, steps, inSteps}
+use Rattle.exact.specs.Numbers.{_⊘_, one, two, Number, magnitude, steps, inSteps}
 use Rattle.exact.proofs.Basics.{passed}
+use Rattle.exact.proofs.Compare.{bounded-finite}
 use Rattle.exact.proofs.Signs.{Plus}
 use Rattle.exact.proofs.Most.{whole-held}
 use Rattle.exact.proofs.Constants.{one-some, one-number, one-steps, two-number, two-steps}
@@ -50,12 +51,5 @@ half-angle-small a h e =
       },
     )
 
--- an angle that is not too large is finite
-angle-finite : (a : Float) → le (magnitude a) largestAngle ≡ true → T (isFinite a)
-unfolding magnitude le lt eq ofBits
-angle-finite nan e = absurd (true≢false (sym e))
-angle-finite (inf s) e = absurd (true≢false (sym e))
-angle-finite (fin s m d) e = tt
-
 pub half-works : (a : Float) → T (fits binary64 a) → le (magnitude a) largestAngle ≡ true → Taken (a ⊘ two) one
-half-works a w e = let h = half-angle-small a (w, angle-finite a e) e in small-taken (a ⊘ two) one (h .0) one-number (h .1)
+half-works a w e = let h = half-angle-small a (w, bounded-finite a largestAngle (largest-plus .0 .1) (passed e)) e in small-taken (a ⊘ two) one (h .0) one-number (h .1)

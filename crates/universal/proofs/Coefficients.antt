@@ -6,7 +6,7 @@ use mathlib.Core.Path.{_≡_, refl, sym, ap, _∙_, subst}
 use mathlib.Core.Bool.{Bool, true, false}
 use mathlib.Core.Logic.{_⊎_, inl, inr, ⊎-elim}
 use Prim.Native.Nat.{ℕ, zero, suc, _+_, _*_, _%_, _≤_, _<_, zero-le}
-use native.Mathlib.Nat.{le-refl, le-trans, le-of-eq, le-of-lt, lt-of-lt-of-le, lt-of-le-of-lt, mul-pos, mul-le-mul-left, eq-or-lt-of-le, not-le-of-lt, mul-mod-right, one-mul, zero-add, add-mul, eq-zero-or-pos, eq-of-mul-eq-mul-right, le-add-left}
+use native.Mathlib.Nat.{le-refl, le-trans, le-of-eq, le-of-lt, lt-of-lt-of-le, lt-of-le-of-lt, mul-pos, mul-le-mul-left, eq-or-lt-of-le, not-le-of-lt, mul-mod-right, one-mul, zero-add, add-mul, eq-zero-or-pos, eq-of-mul-eq-mul-right, le-add-left, mul-one}
 use native.Mathlib.Omega.{arith}
 use lib.Dec.{T, lit<, lit≤}
 use lib.ListN.{getD}
@@ -19,7 +19,7 @@ use Rattle.exact.proofs.Steps.{steps-lt, same-number}
 use Rattle.exact.proofs.Rounding.{rounded, nothing-nearer, rounded-le, round-steps}
 use Rattle.exact.proofs.OneStep.{step, step-number, step-steps}
 use Rattle.exact.proofs.Zero.{positive-is}
-use Rattle.exact.proofs.Constants.{one-number}
+use Rattle.exact.proofs.Constants.{one-number, one-steps}
 use Rattle.universal.specs.Series.{factorial, nearestInverse, inversesFrom, coefficients, sized, off, IsNearestInverse}
 
 -- ---- n!
@@ -46,8 +46,7 @@ thirds (suc k) = let t = thirds k in let n = suc (suc (suc k)) + 1 in (n * t .0,
 -- ---- what 1/n! rounds to
 
 one-is : steps binary64 one * 1 ≡ inSteps 0
-unfolding steps ofBits inSteps
-one-is = refl
+one-is = mul-one (steps binary64 one) ∙ one-steps
 
 module _ (n : ℕ) where
   at-most-one : rounded binary64 1 (factorial n) ≤ steps binary64 one

@@ -1,21 +1,26 @@
 -- Where |alpha|·x² ≤ 63.5 and |x| ≤ 64, the series' argument alpha·(x/4)² is at most 4 as computed. x/4 and its square are each at most 1025/1024
 -- of the exact result and half a step, and the cube of 1025/1024 is less than 64/63.5. The last rounding costs nothing, since 4 is a number. So the
--- functions are not refused there (`small-taken`).
-use mathlib.Core.Path.{_≡_, refl}
-use mathlib.Core.Bool.{Bool, true, false, not}
+-- functions are not refused there (`small-taken`). And the range is what the request calls it: a series is refused exactly where |z| > 4 or z is
+-- NaN (`refused-exactly`).
+use mathlib.Core.Path.{_≡_, refl, ap}
+use mathlib.Core.Logic.{_↔_, _⊎_, inl, inr}
+use mathlib.Core.Bool.{Bool, true, false, not, true≢false}
 use Prim.Native.Nat.{ℕ, _+_, _*_, _^_, _≤_, _<_}
-use native.Mathlib.Nat.{le-trans, mul-pos, mul-le-mul, mul-le-mul-left, mul-le-mul-right, le-of-mul-le-mul-right}
+use native.Mathlib.Nat.{le-trans, lt-of-not-le, not-le-of-lt, mul-pos, mul-le-mul, mul-le-mul-left, mul-le-mul-right, le-of-mul-le-mul-right}
 use native.Mathlib.Omega.{arith}
-use lib.Dec.{T, leb, leb→le, nleb→lt, lit<}
-use lib.Ieee.{Float, binary64, ofBits}
-use lib.Ieee.Bits.{is-true, ofBits-fits}
-use Rattle.exact.specs.Numbers.{_⊗_, _⊘_, Number, steps, inSteps}
-use Rattle.exact.proofs.Signs.{Plus}
+use lib.Dec.{T, T-not, not-T, leb, leb→le, nleb→lt, lit<}
+use lib.Ieee.{Float, nan, inf, fin, binary64, lt, le, eq, fits, ofBits}
+use lib.Ieee.Bits.{is-true, is-false, ofBits-fits}
+use Rattle.exact.specs.Numbers.{_⊗_, _⊘_, isFinite, Number, magnitude, steps, inSteps}
+use Rattle.exact.proofs.Basics.{passed, failed}
+use Rattle.exact.proofs.Order.{plus-le, plus-lt}
+use Rattle.exact.proofs.Signs.{Plus, magnitude-plus}
 use Rattle.exact.proofs.Most.{whole-held}
 use Rattle.exact.proofs.Constants.{one-some}
 use Rattle.exact.proofs.Coarse.{Coarse, far-below, mul-coarse, div-coarse}
 use Rattle.exact.proofs.Sizes.{magnitude-le}
-use Rattle.universal.specs.Series.{four, inRange}
+use Rattle.rows.specs.Rows.{pass, refuse, must}
+use Rattle.universal.specs.Series.{coefficients, worked, four, inRange, outOfRange, seriesOf}
 use Rattle.universal.specs.Functions.{argumentAt}
 use Rattle.universal.proofs.Worked.{Works, works}
 
@@ -95,3 +100,26 @@ module _ (x alpha : Float) (hx : Number binary64 x) (ha : Number binary64 alpha)
 
   pub small-taken : Taken x alpha
   small-taken = (in-range, works x alpha in-range)
+
+-- ---- what is refused
+
+beyond : (z : Float) → T (fits binary64 z) → (inRange z ≡ false) ↔ ((z ≡ nan) ⊎ (lt four (magnitude z) ≡ true))
+unfolding magnitude lt le eq ofBits
+beyond nan w = (λ e. inl refl, λ h. refl)
+beyond (inf s) w = (λ e. inr refl, λ h. refl)
+beyond (fin s m e) w =
+    let z = fin s m e in
+    let p = magnitude-plus z (w, tt) in
+    let at-most = plus-le binary64 (magnitude z) four (p .0) (four-plus .0) (p .1) (four-plus .1) in
+    let above = plus-lt binary64 four (magnitude z) (four-plus .0) (p .0) (four-plus .1) (p .1) in (
+      λ f. inr (is-true _ (above .1 (lt-of-not-le (λ l. T-not (inRange z) (failed f) (at-most .1 l))))),
+      λ h. elim h [ inl n ↦ absurd (true≢false (ap isFinite n)) | inr l ↦ is-false (inRange z) (not-T (inRange z) (λ t. not-le-of-lt (above .0 (passed l)) (at-most .0 t))) ],
+    )
+
+pub refused-exactly : (first : ℕ) (z : Float) → T (fits binary64 z) → (seriesOf first z ≡ refuse outOfRange) ↔ ((z ≡ nan) ⊎ (lt four (magnitude z) ≡ true))
+unfolding must seriesOf
+refused-exactly first z w = (λ e. beyond z w .0 (refused (inRange z) e), λ h. rw (beyond z w .1 h) refl)
+  where
+    refused : (b : Bool) → must b outOfRange (pass (worked (coefficients first) z)) ≡ refuse outOfRange → b ≡ false
+    refused true e = absurd (true≢false cc)
+    refused false e = refl

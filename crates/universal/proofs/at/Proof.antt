@@ -3,8 +3,9 @@ use mathlib.Core.Path.{_≡_, refl, sym}
 use borrow.Author.Needs.{needs}
 use Rattle.rows.specs.Rows.{onward}
 use Rattle.universal.specs.Said.{summed}
-use Rattle.universal.specs.Series.{seriesOf}
-use Rattle.universal.specs.Functions.{argumentAt, functionsAt}
+use Rattle.exact.specs.Numbers.{_⊘_}
+use Rattle.universal.specs.Series.{four, seriesOf}
+use Rattle.universal.specs.Functions.{argumentAt, quartered, functionsAt}
 use Rattle.universal.proofs.at.Statement.{statement}
 use Rattle.universal.proofs.at.Tie as tie
 
@@ -15,6 +16,10 @@ first c = sym (c .c2 .ensures)
 -- and C3
 second : (c : tie.After-c3) → seriesOf 3 (argumentAt (c .before .before .before .before .before .args .x) (c .before .before .before .before .before .args .alpha)) ≡ summed (c .c3 .result)
 second c = sym (c .c3 .ensures)
+
+-- a quarter of x, and the two sums
+quarter-is : (c : tie.After-quarter) → c .quarter .result ≡ quartered (c .before .before .before .before .before .before .before .before .before .args .x ⊘ four) (c .before .before .before .before .before .before .before .before .before .args .alpha) (c .before .before .before .before .before .before .c22 .given .0 .0) (c .before .before .c32 .given .0 .0)
+quarter-is c = c .quarter .ensures
 
 returns : tie.Need-returns
 unfolding onward functionsAt
@@ -29,7 +34,7 @@ unfolding onward functionsAt
 returns-3 c =
     let worked = c .before .before .before .before in
     let earlier = worked .before .before .before .before in
-    rw (first (earlier .before .before), earlier .c22 .given .1, second (worked .before .before), worked .c32 .given .1, c .doubled2 .ensures, c .before .doubled .ensures, c .before .before .quarter .ensures) refl
+    rw (first (earlier .before .before), earlier .c22 .given .1, second (worked .before .before), worked .c32 .given .1, c .doubled2 .ensures, c .before .doubled .ensures, quarter-is (c .before .before)) refl
 
 pub at-spec : {M : Type 1} → statement M
 at-spec =
