@@ -13,8 +13,8 @@ use Rattle.arc.specs.declared.Transfer.{Transfer}
 use Rattle.arc.specs.declared.Scaled.{Scaled}
 use Rattle.arc.specs.Arc.{timeAt}
 use Rattle.arc.proofs.Departing.{time-fits}
-use Rattle.arc_entry.specs.ArcEntry.{thirtySix, startingBracket}
-use Rattle.arc_entry.proofs.Passed.{Entered}
+use Rattle.arc_entry.specs.ArcEntry.{thirtySix}
+use Rattle.arc_entry.proofs.Passed.{startingBracket, Entered}
 
 pub upper-number : Number binary64 thirtySix
 unfolding ofBits

@@ -21,7 +21,7 @@ use Rattle.units.proofs.Positive.{unit-plus}
 use Rattle.arc.specs.declared.Transfer.{Transfer}
 use Rattle.arc.specs.declared.Scaled.{Scaled}
 use Rattle.arc.specs.Arc.{timeAt}
-use Rattle.arc_entry.specs.ArcEntry.{factorOf, scaledBy, scaledFrom, scaledOf, thirtySix, startingBracket, startBy, inputNumber, entryOf}
+use Rattle.arc_entry.specs.ArcEntry.{factorOf, scaledBy, scaledFrom, scaledOf, thirtySix, bracketBy, startBy, inputNumber, entryOf}
 
 -- ---- the scaled transfer
 
@@ -53,6 +53,10 @@ scaled-number q o above h =
     (by .0, subst Plus (sym (by .1)) (unit-plus (q .mu) (q .r1) (R .0) (F .0) 5 6 6 6 above (R .1) (F .1)))
 
 -- ---- the tests
+
+-- the bracket, with T at either end
+abbrev pub startingBracket : Scaled → Bracket
+startingBracket o = bracketBy (timeAt o nought) (timeAt o thirtySix)
 
 pub record Started (o : Scaled) : Type 0 where
   pub first-finite : isFinite (timeAt o nought) ≡ true

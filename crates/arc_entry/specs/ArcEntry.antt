@@ -60,13 +60,11 @@ scaledOf q =
 abbrev pub thirtySix : Float
 thirtySix = numberOf 0x4042_0000_0000_0000
 
--- 14: the starting bracket, each end with its own T. 6 where T(0) is not finite, 51 where t < T(0), the same 6 for T(36), 52 where t > T(36)
+-- 14: the starting bracket, each end with its own T
 abbrev pub bracketBy : (first last : Float) → Bracket
 bracketBy first last = record { lo = record { x = nought; time = first }; hi = record { x = thirtySix; time = last } }
 
-abbrev pub startingBracket : Scaled → Bracket
-startingBracket o = bracketBy (timeAt o nought) (timeAt o thirtySix)
-
+-- 6 where T(0) is not finite, 51 where t < T(0), the same 6 for T(36), 52 where t > T(36)
 unfoldable pub startBy : (time : Scaled → Float → Float) → Scaled → Checked (Scaled × Bracket)
 startBy time o =
     let first = time o nought in

@@ -1,5 +1,5 @@
 -- Comparisons by themselves: below excludes above, for NaN and infinities too; at most is transitive; between finite numbers all is
--- finite, and so is what is no larger than one.
+-- finite, and so is what has a finite bound.
 use mathlib.Core.Path.{_≡_, refl, sym, ap}
 use mathlib.Core.Bool.{Bool, true, false, not, true≢false}
 use Prim.Native.Nat.{ℕ, _*_}

@@ -1,7 +1,6 @@
 -- Where |alpha|·x² ≤ 63.5 and |x| ≤ 64, the series' argument alpha·(x/4)² is at most 4 as computed. x/4 and its square are each at most 1025/1024
 -- of the exact result and half a step, and the cube of 1025/1024 is less than 64/63.5. The last rounding costs nothing, since 4 is a number. So the
--- functions are not refused there (`small-taken`). And the range is what the request calls it: a series is refused exactly where |z| > 4 or z is
--- NaN (`refused-exactly`).
+-- functions are not refused there (`small-taken`). And a series is refused exactly where |z| > 4 or z is NaN (`refused-exactly`).
 use mathlib.Core.Path.{_≡_, refl, ap}
 use mathlib.Core.Logic.{_↔_, _⊎_, inl, inr}
 use mathlib.Core.Bool.{Bool, true, false, not, true≢false}

@@ -1,9 +1,9 @@
 -- `at` meets its contract: one of the series is refused, or a quarter is doubled twice.
 use mathlib.Core.Path.{_≡_, refl, sym}
 use borrow.Author.Needs.{needs}
+use Rattle.exact.specs.Numbers.{_⊘_}
 use Rattle.rows.specs.Rows.{onward}
 use Rattle.universal.specs.Said.{summed}
-use Rattle.exact.specs.Numbers.{_⊘_}
 use Rattle.universal.specs.Series.{four, seriesOf}
 use Rattle.universal.specs.Functions.{argumentAt, quartered, functionsAt}
 use Rattle.universal.proofs.at.Statement.{statement}
