@@ -21,7 +21,7 @@ use Rattle.conic.proofs.Fitting.{ProblemFits}
 use Rattle.arc.specs.declared.Way.{Way}
 use Rattle.arc.specs.declared.Way.the-variants as way
 use Rattle.arc.specs.declared.Transfer.{Transfer}
-use Rattle.card.specs.Fields.{problemSize, transferSize, problemOf, wayOf, transferBy, transferOf}
+use Rattle.card.specs.Fields.{problemSize, questionSize, problemOf, wayOf, transferBy, transferOf}
 use Rattle.card.specs.Made.{numbersBytes, problemBytes, wayNumber, asProblem, transferBytes}
 use Rattle.card.proofs.Numbers.{AllFit, length-numbers, number-at}
 
@@ -32,9 +32,9 @@ front-at : (given : List ℕ) (size : ℕ) → length given ≡ size → (rest :
 front-at given size sized rest k at h = valueAt-front k given rest at (rw sized (leb-true (at + k) size h))
 
 -- and so is a transfer
-pub given-transfer : (given : List ℕ) → length given ≡ transferSize → (rest : List ℕ) → transferOf (given ++ rest) ≡ transferOf given
+pub given-transfer : (given : List ℕ) → length given ≡ questionSize → (rest : List ℕ) → transferOf (given ++ rest) ≡ transferOf given
 unfolding problemOf transferOf
-given-transfer given sized rest = simp (front-at given transferSize sized rest)
+given-transfer given sized rest = simp (front-at given questionSize sized rest)
 
 module _ (given : List ℕ) (sized : length given ≡ problemSize) where
   pub given-problem : (rest : List ℕ) → problemOf (given ++ rest) ≡ problemOf given
@@ -81,7 +81,7 @@ way-read given rest w sized =
     let number : valueAt 4 (given ++ (bytesOf 4 (wayNumber w) ++ rest)) problemSize ≡ wayNumber w = behind-given given sized (bytesOf 4 (wayNumber w) ++ rest) 4 0 ∙ valueAt-bytes 4 (wayNumber w) rest (way-small w) in
     rw (number, way-back w, given-problem given sized (bytesOf 4 (wayNumber w) ++ rest)) refl
 
-pub transfer-as-bytes : (q : Transfer) → ProblemFits (asProblem q) → (length (transferBytes q) ≡ transferSize) × (transferOf (transferBytes q) ≡ pass q)
+pub transfer-as-bytes : (q : Transfer) → ProblemFits (asProblem q) → (length (transferBytes q) ≡ questionSize) × (transferOf (transferBytes q) ≡ pass q)
 transfer-as-bytes q f =
     let g = given-as-bytes (asProblem q) f in (
       length-append (problemBytes (asProblem q)) (bytesOf 4 (wayNumber (q .way))) ∙ rw (g .0, length-bytes 4 (wayNumber (q .way))) refl,

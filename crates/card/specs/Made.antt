@@ -17,7 +17,8 @@ use Rattle.search.specs.Answers as answer
 use Rattle.conic.specs.Said as conic
 use Rattle.card.specs.declared.Kind.{Kind}
 use Rattle.card.specs.declared.Kind.the-variants as kind
-use Rattle.card.specs.Fields.{Card, problemSize, spareSize, answerSize, answerAt}
+use Rattle.version.specs.declared.Version.{Version}
+use Rattle.card.specs.Fields.{Card, problemSize, spareSize, questionSize, restSize}
 
 -- numbers as words of eight bytes
 abbrev pub numbersBytes : List Float → List ℕ
@@ -42,22 +43,22 @@ transferBytes q = problemBytes (asProblem q) ++ bytesOf 4 (wayNumber (q .way))
 abbrev pub spare : List ℕ
 spare = bytesOf spareSize 0
 
--- The deck 4 to 7: a body: what every body begins with, the spare, the answer, and the last spare of a refused card. A transfer has no spare; its
--- way stands in the spare's place, and counts with the answer here
-abbrev pub bodyOf : Kind → (given answer : List ℕ) → List ℕ
-bodyOf kind.Solved given answer = given ++ (spare ++ answer)
-bodyOf kind.Refused given answer = given ++ (spare ++ (answer ++ spare))
-bodyOf kind.Transfer given answer = given ++ answer
+-- The deck 4 to 7: a body: what every body begins with, the spare, the rest, and the last spare of a refused card. A transfer has no spare, and its
+-- way counts with the rest. Object and epoch, where there are any, stand in the rest, in front of the answer, and on a transfer behind it
+abbrev pub bodyOf : Kind → (given rest : List ℕ) → List ℕ
+bodyOf kind.Solved given rest = given ++ (spare ++ rest)
+bodyOf kind.Refused given rest = given ++ (spare ++ (rest ++ spare))
+bodyOf kind.Transfer given rest = given ++ rest
 
--- The deck 5 to 7: where the answer begins: behind the spare, and where there is none, behind what every body begins with
-unfoldable pub answerFrom : Kind → ℕ
-answerFrom kind.Solved = answerAt
-answerFrom kind.Refused = answerAt
-answerFrom kind.Transfer = problemSize
+-- The deck 4 to 7: where the rest begins: behind the spare, and where there is none, behind what every body begins with
+unfoldable pub restFrom : Kind → ℕ
+restFrom kind.Solved = questionSize
+restFrom kind.Refused = questionSize
+restFrom kind.Transfer = problemSize
 
--- Writing a deck 2: the fields in a body, without its spares; and the body that has these fields
-abbrev pub fieldsIn : Kind → (body : List ℕ) → List ℕ
-fieldsIn kind body = take problemSize body ++ take (answerSize kind) (drop (answerFrom kind) body)
+-- Writing a deck 3: the fields in a body, without its spares; and the body that has these fields
+abbrev pub fieldsIn : Version → Kind → (body : List ℕ) → List ℕ
+fieldsIn v kind body = take problemSize body ++ take (restSize v kind) (drop (restFrom kind) body)
 
 abbrev pub bodyFrom : Kind → (fields : List ℕ) → List ℕ
 bodyFrom kind fields = bodyOf kind (take problemSize fields) (drop problemSize fields)
@@ -69,21 +70,22 @@ solvedNumbers x state = x ∷ state .r .x ∷ state .r .y ∷ state .r .z ∷ st
 abbrev pub solvedAnswer : Float → State → List ℕ
 solvedAnswer x state = numbersBytes (solvedNumbers x state)
 
-abbrev pub solvedBody : (given : List ℕ) → Float → State → List ℕ
-solvedBody given x state = bodyOf kind.Solved given (solvedAnswer x state)
+abbrev pub solvedBody : (given tag : List ℕ) → Float → State → List ℕ
+solvedBody given tag x state = bodyOf kind.Solved given (tag ++ solvedAnswer x state)
 
--- The deck 7: z and velocity; and the body of a solved transfer, behind the transfer's bytes
+-- The deck 7: z and velocity; and the body of a solved transfer, from the transfer's bytes, with object and epoch at its end
 abbrev pub transferNumbers : Float → Vector → List Float
 transferNumbers z v = z ∷ v .x ∷ v .y ∷ v .z ∷ []
 
-abbrev pub transferBody : (given : List ℕ) → Float → Vector → List ℕ
-transferBody given z v = given ++ numbersBytes (transferNumbers z v)
+abbrev pub transferBody : (given tag : List ℕ) → Float → Vector → List ℕ
+transferBody given tag z v = given ++ (numbersBytes (transferNumbers z v) ++ tag)
 
 -- The deck 6: the refusal's number
-abbrev pub refusedBody : (given : List ℕ) → ℕ → List ℕ
-refusedBody given k = bodyOf kind.Refused given (bytesOf 4 k)
+abbrev pub refusedBody : (given tag : List ℕ) → ℕ → List ℕ
+refusedBody given tag k = bodyOf kind.Refused given (tag ++ bytesOf 4 k)
 
--- Writing a deck 1: what an answer makes of a problem: the kind of the card, the answer's bytes, and the card
+-- Writing a deck 2: what an answer makes of a problem: the kind of the card, the answer's bytes, and the card, with the bytes of object and epoch
+-- where there are any
 abbrev pub kindFor : conic.Said → Kind
 kindFor (answer.solved x n state) = kind.Solved
 kindFor (answer.refused k n) = kind.Refused
@@ -94,5 +96,5 @@ answerFor (answer.solved x n state) = solvedAnswer x state
 answerFor (answer.refused k n) = bytesOf 4 k
 answerFor (answer.refusedWithBracket k n lo hi) = bytesOf 4 k
 
-abbrev pub cardFor : (given : List ℕ) → conic.Said → Card
-cardFor given said = record { kind = kindFor said; body = bodyOf (kindFor said) given (answerFor said) }
+abbrev pub cardFor : (given tag : List ℕ) → conic.Said → Card
+cardFor given tag said = record { kind = kindFor said; body = bodyOf (kindFor said) given (tag ++ answerFor said) }

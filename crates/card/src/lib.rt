@@ -1,45 +1,52 @@
-// A card's bytes: its kind, the size of its body, and the fields that stand in it. docs/RULES.md, The
-// deck.
+// A card's bytes: its kind, the size of its body, and the fields that stand in it, by the version of its
+// deck. docs/RULES.md, The deck.
 //
 // What was sent is read as words, and computed with as the numbers that they stand for. Every
 // function here is proved, the public ones are total, and the crate assumes nothing.
 use arc::Transfer;
 use arc::Way;
 use conic::Problem;
+use tag::Tag;
 use vectors::Vector;
+use version::Version;
 ghost use mathlib.Core.Path.{_≡_};
 ghost use Prim.Native.Nat.{_≤_};
-ghost use Rattle.card.specs.Fields.{kindOf, kindNumber, sizeOf, packedSize, numberAt, vectorAt, problemOf, transferBy, transferOf};
+ghost use Rattle.card.specs.Fields.{kindOf, kindNumber, givenSize, ownSize, packedSize, sizeOf, answerSize, answerAt, tagAt, tagOf, numberAt, vectorAt, problemOf, transferBy, transferOf};
 ghost use Rattle.card.specs.Said.{named, asked};
 
-// The bytes with which every body begins, a problem's, and those of a spare; those of a body and of its
-// fields without a spare, at most: a solved card's.
+// The bytes with which every body begins, a problem's, and those of a spare; and those of both, or of a
+// transfer with its way: what a card asks.
 pub const PROBLEM: usize = 68;
 
 const SPARE_SIZE: usize = 4;
 
-// And those of a transfer, with its way.
-pub const TRANSFER: usize = PROBLEM + 4;
+pub const QUESTION: usize = PROBLEM + SPARE_SIZE;
 
-pub const BODY: usize = 128;
+// The bytes of what a card answers: of a solved one, which has the most, of a refused one with its last
+// spare, and of a transfer; and those of a body and of its fields without a spare, at most: a solved card's
+// in version 2.
+const ANSWER: usize = 56;
 
-// The bytes of a transfer's body. It has no spare, so its fields are all of them.
-const TRANSFER_BODY: usize = 104;
+const REFUSED_ANSWER: usize = 8;
 
-pub const FIELDS: usize = 124;
+const TRANSFER_ANSWER: usize = 32;
 
-// Where the fields of a body begin behind these: the spare, or a transfer's way; of a solved card x,
-// position and velocity; of a refused one the number and a spare; of a transfer z and, where a solved card
-// has its position, the velocity.
+pub const BODY: usize = QUESTION + ANSWER + version::TAG;
+
+pub const FIELDS: usize = PROBLEM + ANSWER + version::TAG;
+
+// Where the spare, or a transfer's way, begins in what a card asks.
 pub const SPARE: usize = PROBLEM;
 
-pub const X: usize = SPARE + SPARE_SIZE;
+// Where fields begin in what a card answers: of a solved card x, position and velocity; of a refused one the
+// number and a spare; of a transfer z and, where a solved card has its position, the velocity.
+pub const X: usize = 0;
 
 pub const POSITION: usize = X + 8;
 
 pub const VELOCITY: usize = POSITION + 24;
 
-pub const NUMBER: usize = X;
+pub const NUMBER: usize = 0;
 
 pub const LAST_SPARE: usize = NUMBER + 4;
 
@@ -77,25 +84,68 @@ impl Kind {
     }
 
     // The bytes of a card's fields without a spare.
-    pub fn packed(self) -> usize
-        ensures { λ r. ⌜ r ≡ packedSize self ⌝ }
+    pub fn packed(self, version: Version) -> usize
+        ensures { λ r. ⌜ r ≡ packedSize version self ⌝ }
     {
-        match self {
-            Kind::Solved => FIELDS,
-            Kind::Refused => 72,
-            Kind::Transfer => TRANSFER_BODY,
-        }
+        PROBLEM + own(self) + version.tag()
     }
 
     // The bytes of a body.
-    pub fn size(self) -> usize
-        ensures { λ r. ⌜ r ≡ sizeOf self ⌝ }
+    pub fn size(self, version: Version) -> usize
+        ensures { λ r. ⌜ r ≡ sizeOf version self ⌝ }
+    {
+        QUESTION + self.answer() + version.tag()
+    }
+
+    // The bytes of what a card answers, with a spare.
+    pub fn answer(self) -> usize
+        ensures { λ r. ⌜ r ≡ answerSize self ⌝ }
     {
         match self {
-            Kind::Solved => BODY,
-            Kind::Refused => 80,
-            Kind::Transfer => TRANSFER_BODY,
+            Kind::Solved => ANSWER,
+            Kind::Refused => REFUSED_ANSWER,
+            Kind::Transfer => TRANSFER_ANSWER,
         }
+    }
+
+    // Where that begins in a body.
+    pub fn answer_at(self, version: Version) -> usize
+        ensures { λ r. ⌜ r ≡ answerAt version self ⌝ }
+    {
+        match self {
+            Kind::Solved => QUESTION + version.tag(),
+            Kind::Refused => QUESTION + version.tag(),
+            Kind::Transfer => QUESTION,
+        }
+    }
+}
+
+// The bytes of a card's fields behind the problem, without a spare, object and epoch.
+fn own(kind: Kind) -> usize
+    ensures { λ r. ⌜ r ≡ ownSize kind ⌝ }
+{
+    match kind {
+        Kind::Solved => ANSWER,
+        Kind::Refused => REFUSED_ANSWER - SPARE_SIZE,
+        Kind::Transfer => SPARE_SIZE + TRANSFER_ANSWER,
+    }
+}
+
+// The bytes of a problem as it is given to be written, with object and epoch where the version has them.
+pub fn given(version: Version) -> usize
+    ensures { λ r. ⌜ r ≡ givenSize version ⌝ }
+{
+    PROBLEM + version.tag()
+}
+
+// Where object and epoch begin in a body that has them.
+fn tag_at(kind: Kind) -> usize
+    ensures { λ r. ⌜ r ≡ tagAt kind ⌝ }
+{
+    match kind {
+        Kind::Solved => QUESTION,
+        Kind::Refused => QUESTION,
+        Kind::Transfer => QUESTION + TRANSFER_ANSWER,
     }
 }
 
@@ -116,6 +166,21 @@ pub fn number(body: &[u8], at: usize) -> f64
     ensures { λ r. ⌜ r ≡ numberAt (now (body .entry)) at ⌝ }
 {
     exact::number(words::word(body, at))
+}
+
+// Object and epoch of a card, which version 1 does not have.
+pub fn tag(version: Version, kind: Kind, body: &[u8]) -> Tag
+    ensures { λ r. ⌜ r ≡ tagOf version kind (now (body .entry)) ⌝ }
+{
+    match version {
+        Version::One => Tag::Absent,
+        Version::Two => {
+            let at = tag_at(kind);
+            let object = words::half(body, at);
+            let epoch = tag::seconds(words::word(body, at + 4));
+            Tag::Present { object, epoch }
+        }
+    }
 }
 
 // The problem with which a body begins, as numbers: every NaN word gives NaN.

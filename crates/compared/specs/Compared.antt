@@ -48,11 +48,11 @@ answeredBy time t unit find same b x =
     onward (timedBy b x (time x) t unit) (λ residual.
     foundBy find same x residual)
 
--- the bits of a vector, as words, against those of the body
-abbrev pub sameWords : List ℕ → (at : ℕ) → Vector → Bool
-sameWords body at a = eqb (valueAt 8 body at) (wordOf (a .x)) && eqb (valueAt 8 body (at + 8)) (wordOf (a .y)) && eqb (valueAt 8 body (at + 16)) (wordOf (a .z))
+-- the bits of a vector, as words, against those of the answer
+abbrev pub sameWords : (answer : List ℕ) → (at : ℕ) → Vector → Bool
+sameWords answer at a = eqb (valueAt 8 answer at) (wordOf (a .x)) && eqb (valueAt 8 answer (at + 8)) (wordOf (a .y)) && eqb (valueAt 8 answer (at + 16)) (wordOf (a .z))
 
--- where a vector stands in a solved card: behind the unknown, or behind the first vector
+-- where a vector stands in a solved card's answer: behind the unknown, or behind the first vector
 abbrev pub placeAt : Place → ℕ
 placeAt place.First = positionFrom
 placeAt place.Second = velocityFrom

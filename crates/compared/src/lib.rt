@@ -16,7 +16,7 @@ pub enum Timed {
     Rejected(u32),
 }
 
-// Where a vector stands in a solved card: behind the unknown, or behind the first vector.
+// Where a vector stands in a solved card's answer: behind the unknown, or behind the first vector.
 pub enum Place {
     First,
     Second,
@@ -39,14 +39,14 @@ pub fn time(b: Bracket, x: f64, time: f64, t: f64, unit: f64) -> Timed
     Timed::Residual(exact::absolute(time - t) * unit)
 }
 
-// Whether the three words that stand in a body at this place are those of a.
-pub fn same(body: &[u8], place: Place, a: Vector) -> bool
-    ensures { λ r. ⌜ r ≡ sameWords (now (body .entry)) (placeAt place) a ⌝ }
+// Whether the three words that stand in an answer at this place are those of a.
+pub fn same(answer: &[u8], place: Place, a: Vector) -> bool
+    ensures { λ r. ⌜ r ≡ sameWords (now (answer .entry)) (placeAt place) a ⌝ }
 {
     let at = start(place);
-    (words::word(body, at) == exact::word(a.x))
-        & (words::word(body, at + 8) == exact::word(a.y))
-        & (words::word(body, at + 16) == exact::word(a.z))
+    (words::word(answer, at) == exact::word(a.x))
+        & (words::word(answer, at + 8) == exact::word(a.y))
+        & (words::word(answer, at + 16) == exact::word(a.z))
 }
 
 fn start(place: Place) -> usize

@@ -2,6 +2,7 @@
 use Prim.Native.Nat.{ℕ}
 use Rattle.rows.specs.Rows.{Checked, pass, refuse}
 use Rattle.ruling.specs.Said.{reasonNumber}
+use Rattle.version.specs.declared.Version.{Version}
 use Rattle.card.specs.declared.Kind.{Kind}
 use Rattle.contents.specs.declared.Entry.{Entry}
 use Rattle.contents.specs.declared.Entry.the-variants as entry
@@ -13,7 +14,7 @@ abbrev pub entered : Entry → Checked Kind
 entered (entry.Card kind) = pass kind
 entered (entry.Refused why) = refuse (reasonNumber why)
 
--- how many cards, or the number of the refusal
-abbrev pub listed : Contents → Checked ℕ
-listed (contents.Cards count) = pass count
+-- the version and how many cards, or the number of the refusal
+abbrev pub listed : Contents → Checked (Version × ℕ)
+listed (contents.Cards v count) = pass (v, count)
 listed (contents.Refused why) = refuse (reasonNumber why)

@@ -5,17 +5,17 @@
 use card::Kind;
 use card::Named;
 use ruling::Reason;
+use version::Stated;
+use version::Version;
 ghost use mathlib.Core.Path.{_≡_};
 ghost use Rattle.card.specs.Said as card;
 ghost use Rattle.contents.specs.Said.{entered, listed};
-ghost use Rattle.contents.specs.Contents.{entryAt, countOf, kindAt, entryIn, cardsFrom, cardsOf, counting};
+ghost use Rattle.contents.specs.Contents.{entryAt, kindAt, entryIn, cardsFrom, counting, countedIn};
 
 // The bytes before the first entry, and those of one.
 pub const HEADER: usize = 8;
 
 pub const ENTRY: usize = 12;
-
-pub const VERSION: u32 = 1;
 
 // The most cards, and the bytes of the largest deck.
 pub const MOST_CARDS: usize = 256;
@@ -28,22 +28,22 @@ pub enum Entry {
     Refused(Reason),
 }
 
-// How many cards a deck has, or why it is refused.
+// The version of a deck and how many cards it has, or why it is refused.
 pub enum Contents {
-    Cards(u32),
+    Cards(Version, u32),
     Refused(Reason),
 }
 
-// How many cards there are, once all tests of the contents are passed.
+// The version and how many cards there are, once all tests of the contents are passed.
 pub fn tested(deck: &[u8]) -> Contents
-    ensures { λ r. ⌜ listed r ≡ counting (countOf (now (deck .entry))) (cardsOf (now (deck .entry))) ⌝ }
+    ensures { λ r. ⌜ listed r ≡ countedIn (now (deck .entry)) ⌝ }
 {
     if deck.len() < HEADER {
         return Contents::Refused(Reason::TooShort);
     }
-    if words::half(deck, 0) != VERSION {
+    let Stated::Version(version) = version::named(words::half(deck, 0)) else {
         return Contents::Refused(Reason::OtherVersion);
-    }
+    };
     let count = words::half(deck, 4);
     if MOST_CARDS < count as usize {
         return Contents::Refused(Reason::TooManyCards);
@@ -51,20 +51,20 @@ pub fn tested(deck: &[u8]) -> Contents
     if deck.len() < HEADER + ENTRY * count as usize {
         return Contents::Refused(Reason::ContentsPastEnd);
     }
-    entries_tested(deck, count)
+    entries_tested(deck, version, count)
 }
 
 // Each entry in turn, then the bytes left over.
-fn entries_tested(deck: &[u8], count: u32) -> Contents
-    ensures { λ r. ⌜ listed r ≡ counting count (cardsFrom (now (deck .entry)) count 0 (entryAt count)) ⌝ }
+fn entries_tested(deck: &[u8], version: Version, count: u32) -> Contents
+    ensures { λ r. ⌜ listed r ≡ counting version count (cardsFrom version (now (deck .entry)) count 0 (entryAt count)) ⌝ }
 {
     let mut i = 0;
     let mut at = HEADER + ENTRY * count as usize;
     while i < count {
-        match entry_at(deck, i, at) {
+        match entry_at(deck, version, i, at) {
             Entry::Refused(why) => return Contents::Refused(why),
             Entry::Card(kind) => {
-                at += kind.size();
+                at += kind.size(version);
                 i += 1;
             }
         }
@@ -72,18 +72,18 @@ fn entries_tested(deck: &[u8], count: u32) -> Contents
     if at != deck.len() {
         return Contents::Refused(Reason::BytesLeftOver);
     }
-    Contents::Cards(count)
+    Contents::Cards(version, count)
 }
 
 // Entry i, where the last body ended at index at.
-pub fn entry_at(deck: &[u8], i: u32, at: usize) -> Entry
-    ensures { λ r. ⌜ entered r ≡ entryIn (now (deck .entry)) i at ⌝ }
+pub fn entry_at(deck: &[u8], version: Version, i: u32, at: usize) -> Entry
+    ensures { λ r. ⌜ entered r ≡ entryIn version (now (deck .entry)) i at ⌝ }
 {
     let Named::Kind(kind) = kind_at(deck, i) else {
         return Entry::Refused(Reason::UnknownKind);
     };
     let place = HEADER + ENTRY * i as usize;
-    let size = kind.size();
+    let size = kind.size(version);
     if words::half(deck, place + 8) as usize != size {
         return Entry::Refused(Reason::WrongLength);
     }

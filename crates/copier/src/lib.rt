@@ -8,7 +8,7 @@ ghost use lib.ListN.{length};
 ghost use Rattle.layout.specs.Written.{lengthFor, bufferAfter, said};
 ghost use Rattle.copier.specs.Copy.{copyOf};
 
-// Copies a deck to the front of the buffer.
+// Copies a deck, in its own version, to the front of the buffer.
 pub fn copy(deck: &[u8], buffer: &mut [u8]) -> Written
     ensures { λ r. ⌜ said r ≡ lengthFor (copyOf (now (deck .entry))) (length (now (buffer .entry))) ⌝ }
     ensures { λ r. ⌜ now (buffer .exit) ≡ bufferAfter (copyOf (now (deck .entry))) (now (buffer .entry)) ⌝ }
@@ -17,7 +17,9 @@ pub fn copy(deck: &[u8], buffer: &mut [u8]) -> Written
     let mut fields = [0u8; layout::MOST_FIELDS];
     match apart::take(deck, &mut kinds, &mut fields) {
         Apart::Refused(why) => Written::Refused(why),
-        Apart::Cards(count, size) => writer::write(
+        Apart::Cards(version, count, size) => writer::write(
+            version.number(),
+            version.form(),
             &kinds[..count as usize],
             &fields[..size],
             buffer,

@@ -4,31 +4,32 @@ use mathlib.Core.List.{List, _++_, map}
 use lib.Dec.{leb}
 use lib.ListN.{length, drop}
 use Rattle.rows.specs.Rows.{Checked, pass, refuse, must, onward}
+use Rattle.version.specs.declared.Version.{Version}
 use Rattle.card.specs.Fields.{Card}
-use Rattle.contents.specs.Contents.{entryAt, countOf, cardsFrom, cardsOf}
+use Rattle.contents.specs.Contents.{entryAt, countOf, cardsFrom, deckIn}
 use Rattle.ruling.specs.Said.{Said, numberIn}
-use Rattle.verdict.specs.Verdict.{verdictOn}
+use Rattle.verdict.specs.Verdict.{verdictOf}
 use Rattle.deck.specs.declared.Totals.{Totals}
 use Rattle.deck.specs.Tally.{Residuals, tallyOf}
 
 -- a verdict for each card, in deck order
-abbrev pub verdictsOf : List Card → List Said
-verdictsOf cards = map (λ (c : Card). verdictOn (c .kind) (c .body)) cards
+abbrev pub verdictsOf : Version → List Card → List Said
+verdictsOf v cards = map (verdictOf v) cards
 
 -- their numbers, as the verdict list has them
-abbrev pub numbersOf : List Card → List ℕ
-numbersOf cards = map numberIn (verdictsOf cards)
+abbrev pub numbersOf : Version → List Card → List ℕ
+numbersOf v cards = map numberIn (verdictsOf v cards)
 
 -- the verdicts for `count` entries, from the first one on
-abbrev pub judgedFrom : List ℕ → (count : ℕ) → Checked (List Said)
-judgedFrom deck count = onward (cardsFrom deck count 0 (entryAt count)) (λ cards. pass (verdictsOf cards))
+abbrev pub judgedFrom : Version → List ℕ → (count : ℕ) → Checked (List Said)
+judgedFrom v deck count = onward (cardsFrom v deck count 0 (entryAt count)) (λ cards. pass (verdictsOf v cards))
 
 -- the refusals of the contents, then 39, where the list has fewer places than there are cards; a deck that passes is accepted
 unfoldable pub judgedOf : List ℕ → (room : ℕ) → Checked (List Said)
 judgedOf deck room =
-    onward (cardsOf deck) (λ cards.
+    onward (deckIn deck) (λ d.
     must (leb (countOf deck) room) 39
-    (pass (verdictsOf cards)))
+    (pass (verdictsOf (d .version) (d .cards))))
 
 -- the tally of the verdicts, or the refusal
 abbrev pub tallied : Checked (List Said) → Checked (Totals × Residuals)

@@ -11,9 +11,11 @@ use contents::Entry;
 use contents::HEADER;
 use ruling::Reason;
 use ruling::Verdict;
+use version::Version;
 ghost use mathlib.Core.Path.{_≡_};
 ghost use Prim.Native.Nat.{_≤_, _<_};
 ghost use lib.ListN.{length, set};
+ghost use Rattle.card.specs.Fields.{sizeOf, partsOf};
 ghost use Rattle.contents.specs.Contents.{entryAt, mostCards, cardsFrom, Passes};
 ghost use Rattle.ruling.specs.Said as judge;
 ghost use Rattle.verdict.specs.Verdict.{verdictOn};
@@ -48,31 +50,36 @@ pub fn check(deck: &[u8], verdicts: &mut [u32]) -> Answer
 {
     match contents::tested(deck) {
         Contents::Refused(why) => Answer::Refused(why),
-        Contents::Cards(count) => {
+        Contents::Cards(version, count) => {
             if verdicts.len() < count as usize {
                 return Answer::Refused(Reason::ListTooShort);
             }
-            judged(deck, count, verdicts)
+            judged(deck, version, count, verdicts)
         }
     }
 }
 
 // A verdict for each card of a deck whose contents passed, and the tally. No entry is refused here.
-fn judged(deck: &[u8], count: u32, verdicts: &mut [u32]) -> Answer
+fn judged(deck: &[u8], version: Version, count: u32, verdicts: &mut [u32]) -> Answer
     requires { ⌜ (count ≤ mostCards) × (count ≤ length (now verdicts)) ⌝ }
-    requires { ⌜ Passes (cardsFrom (now deck) count 0 (entryAt count)) ⌝ }
-    ensures { λ r. ⌜ said r ≡ tallied (judgedFrom (now (deck .entry)) count) ⌝ }
-    ensures { λ r. ⌜ now (verdicts .exit) ≡ written (judgedFrom (now (deck .entry)) count) (now (verdicts .entry)) ⌝ }
+    requires { ⌜ Passes (cardsFrom version (now deck) count 0 (entryAt count)) ⌝ }
+    ensures { λ r. ⌜ said r ≡ tallied (judgedFrom version (now (deck .entry)) count) ⌝ }
+    ensures { λ r. ⌜ now (verdicts .exit) ≡ written (judgedFrom version (now (deck .entry)) count) (now (verdicts .entry)) ⌝ }
 {
     let mut i = 0;
     let mut at = HEADER + ENTRY * count as usize;
     let mut running = tally::none();
     while i < count {
-        match contents::entry_at(deck, i, at) {
+        match contents::entry_at(deck, version, i, at) {
             Entry::Refused(why) => return Answer::Refused(why),
             Entry::Card(kind) => {
-                let end = at + kind.size();
-                let verdict = judge_into(&mut verdicts[i as usize..], kind, &deck[at..end]);
+                let end = at + kind.size(version);
+                let verdict = judge_into(
+                    &mut verdicts[i as usize..],
+                    version,
+                    kind,
+                    &deck[at..end],
+                );
                 running = tally::with(running, verdict);
                 at = end;
                 i += 1;
@@ -83,12 +90,14 @@ fn judged(deck: &[u8], count: u32, verdicts: &mut [u32]) -> Answer
 }
 
 // The verdict on a card, written into the first place of the list.
-fn judge_into(verdicts: &mut [u32], kind: Kind, body: &[u8]) -> Verdict
-    requires { ⌜ 0 < length (now verdicts) ⌝ }
-    ensures { λ r. ⌜ judge.said r ≡ verdictOn kind (now (body .entry)) ⌝ }
+fn judge_into(verdicts: &mut [u32], version: Version, kind: Kind, body: &[u8]) -> Verdict
+    requires { ⌜ (0 < length (now verdicts)) × (length (now body) ≡ sizeOf version kind) ⌝ }
+    ensures { λ r. ⌜ judge.said r ≡ verdictOn kind (partsOf version kind (now (body .entry))) ⌝ }
     ensures { λ r. ⌜ now (verdicts .exit) ≡ set (now (verdicts .entry)) 0 (judge.numberIn (judge.said r)) ⌝ }
 {
-    let verdict = verdict::judge(kind, body);
+    let first = kind.answer_at(version);
+    let last = first + kind.answer();
+    let verdict = verdict::judge(kind, &body[..card::QUESTION], &body[first..last]);
     verdicts[0] = verdict.number();
     verdict
 }

@@ -6,6 +6,7 @@
 use card::Kind;
 use card::Named;
 use ruling::Reason;
+use version::Version;
 ghost use mathlib.Core.Path.{_≡_};
 ghost use Prim.Native.Nat.{_≤_, min};
 ghost use lib.ListN.{length};
@@ -25,25 +26,25 @@ pub enum Written {
     Refused(Reason),
 }
 
-// Puts version, count and entries of cards with these kinds into out from the first byte on, as far as
+// Puts version, count and entries of a deck of cards with these kinds into out from the first byte on, as far as
 // out goes: the entries up to the first number that names no kind, and nothing for more than 256
 // kinds. Answers where it ends.
-pub fn put_contents(kinds: &[u32], out: &mut [u8]) -> usize
-    ensures { λ r. ⌜ r ≡ endIn (now (out .entry)) 0 (contentsFor (now (kinds .entry))) ⌝ }
-    ensures { λ r. ⌜ now (out .exit) ≡ putIn (now (out .entry)) 0 (contentsFor (now (kinds .entry))) ⌝ }
+pub fn put_contents(version: Version, kinds: &[u32], out: &mut [u8]) -> usize
+    ensures { λ r. ⌜ r ≡ endIn (now (out .entry)) 0 (contentsFor version (now (kinds .entry))) ⌝ }
+    ensures { λ r. ⌜ now (out .exit) ≡ putIn (now (out .entry)) 0 (contentsFor version (now (kinds .entry))) ⌝ }
 {
     if contents::MOST_CARDS < kinds.len() {
         return 0;
     }
-    let version = words::put_half(out, 0, contents::VERSION);
-    let count = words::put_half(out, version, kinds.len() as u32);
-    put_entries(kinds, out, count)
+    let number = words::put_half(out, 0, version.number());
+    let count = words::put_half(out, number, kinds.len() as u32);
+    put_entries(version, kinds, out, count)
 }
 
 // An entry for each kind, up to the first number that names none.
-fn put_entries(kinds: &[u32], out: &mut [u8], start: usize) -> usize
+fn put_entries(version: Version, kinds: &[u32], out: &mut [u8], start: usize) -> usize
     requires { ⌜ (length (now kinds) ≤ mostCards) × (start ≤ length (now out)) ⌝ }
-    ensures { λ r. ⌜ Put (now (out .entry)) start (entriesFrom (entryAt (length (now (kinds .entry)))) (namedIn (now (kinds .entry)))) (now (out .exit)) r ⌝ }
+    ensures { λ r. ⌜ Put (now (out .entry)) start (entriesFrom version (entryAt (length (now (kinds .entry)))) (namedIn (now (kinds .entry)))) (now (out .exit)) r ⌝ }
 {
     let mut offset = contents::HEADER + contents::ENTRY * kinds.len();
     let mut end = start;
@@ -52,20 +53,20 @@ fn put_entries(kinds: &[u32], out: &mut [u8], start: usize) -> usize
         let Named::Kind(kind) = card::kind_of(kinds[i]) else {
             return end;
         };
-        end = put_entry(kind, offset, out, end);
-        offset += kind.size();
+        end = put_entry(version, kind, offset, out, end);
+        offset += kind.size(version);
         i += 1;
     }
     end
 }
 
-fn put_entry(kind: Kind, offset: usize, out: &mut [u8], at: usize) -> usize
+fn put_entry(version: Version, kind: Kind, offset: usize, out: &mut [u8], at: usize) -> usize
     requires { ⌜ offset ≤ largestDeck ⌝ }
-    ensures { λ r. ⌜ Put (now (out .entry)) at (entryFor kind offset) (now (out .exit)) r ⌝ }
+    ensures { λ r. ⌜ Put (now (out .entry)) at (entryFor version kind offset) (now (out .exit)) r ⌝ }
 {
     let number = words::put_half(out, at, kind.number());
     let place = words::put_half(out, number, offset as u32);
-    words::put_half(out, place, kind.size() as u32)
+    words::put_half(out, place, kind.size(version) as u32)
 }
 
 // Puts the body of a card that has these fields, which come without spares, into out from index at on,
@@ -84,7 +85,7 @@ pub fn put_body(kind: Kind, fields: &[u8], out: &mut [u8], at: usize) -> usize
     }
 }
 
-// The problem, its spare and the answer: the body of a solved card, and of a refused one as far as its
+// The problem, its spare and the rest: the body of a solved card, and of a refused one as far as its
 // last spare.
 fn put_spared(fields: &[u8], out: &mut [u8], at: usize) -> usize
     ensures { λ r. ⌜ Put (now (out .entry)) at (bodyFrom Solved (now (fields .entry))) (now (out .exit)) r ⌝ }

@@ -7,7 +7,7 @@ use Rattle.conic.specs.Said as conic
 use Rattle.kepler.specs.Kepler.{keplerOf}
 use Rattle.theta.specs.Theta.{thetaOf}
 use Rattle.lambert.specs.Lambert.{answerTo}
-use Rattle.card.specs.Fields.{problemSize, transferSize, numberAt, problemOf, transferOf}
+use Rattle.card.specs.Fields.{problemSize, questionSize, numberAt, problemOf, transferOf}
 use Rattle.outcomes.specs.Outcomes.{outcomeLine, transferLine, mostOutcome}
 use Rattle.sheets.specs.Sheets.{rootLine, workingLines, mostWorking}
 use Rattle.sums.specs.Sums.{sumsAt, sumsLine}
@@ -19,7 +19,7 @@ abbrev pub widthOf : Question → ℕ
 widthOf question.Root = 8
 widthOf question.Kepler = problemSize
 widthOf question.Theta = 64
-widthOf question.Transfer = transferSize
+widthOf question.Transfer = questionSize
 widthOf question.Digits = 8
 widthOf question.Series = 8
 
@@ -38,7 +38,7 @@ lineOf question.Series bytes = sumsLine (sumsAt (numberAt bytes 0))
 
 -- no record has more bytes
 abbrev pub mostWidth : ℕ
-mostWidth = transferSize
+mostWidth = questionSize
 
 -- what is written for a record has no more bytes
 abbrev pub mostLine : Question → ℕ

@@ -33,7 +33,7 @@ pub fn width(asked: Question) -> usize
         Question::Root => 8,
         Question::Kepler => card::PROBLEM,
         Question::Theta => 64,
-        Question::Transfer => card::TRANSFER,
+        Question::Transfer => card::QUESTION,
         Question::Digits => 8,
         Question::Series => 8,
     }

@@ -44,7 +44,7 @@ abbrev pub meanIn : Checked (Totals × Residuals) → Float
 meanIn (pass tally) = meanOf (tally .1)
 meanIn (refuse k) = minusNumber k
 
--- what a lent size becomes: the deck's length (RULES, Writing a deck 4); a refusal leaves it
+-- what a lent size becomes: the deck's length (RULES, Writing a deck 5); a refusal leaves it
 abbrev pub sizeAfter : Checked ℕ → ℕ → ℕ
 sizeAfter (pass size) lent = size
 sizeAfter (refuse k) lent = lent

@@ -19,7 +19,7 @@ ghost use Rattle.kepler.specs.Kepler.{keplerOf};
 ghost use Rattle.deck.specs.Said as deck;
 ghost use Rattle.deck.specs.Check.{answerOf, listAfter};
 ghost use Rattle.layout.specs.Written.{lengthFor, bufferAfter};
-ghost use Rattle.problems.specs.Problems.{problemCards};
+ghost use Rattle.problems.specs.Problems.{problemDeck};
 ghost use Rattle.linked.specs.Linked.{outcomeNumber, stateSum, velocitySum, sumAfter, minusNumber, meanIn, sizeAfter};
 
 // Kepler on the problem with which the bytes begin. Where it is solved the answer is 0, and `sum`
@@ -75,16 +75,23 @@ pub extern "C" fn tailfiddle_check(deck: &[u8], verdicts: &mut [u32]) -> f64
     mean_in(deck::check(deck, verdicts))
 }
 
-// Writes the deck of these problems, of 68 bytes each, at the front of the buffer. Where it is written
+// Writes the deck of these problems, which have this form (0: of 68 bytes each, 1: of 80, with object and
+// epoch), in this version at the front of the buffer. Where it is written
 // the answer is 0, and `size` becomes the deck's length; else the refusal's number, and buffer and
 // `size` stay as they were lent.
 #[no_mangle]
-pub extern "C" fn tailfiddle_write(problems: &[u8], buffer: &mut [u8], size: &mut usize) -> u32
-    ensures { λ r. ⌜ r ≡ refusalIn (lengthFor (problemCards (now (problems .entry))) (length (now (buffer .entry)))) ⌝ }
-    ensures { λ _. ⌜ now (buffer .exit) ≡ bufferAfter (problemCards (now (problems .entry))) (now (buffer .entry)) ⌝ }
-    ensures { λ _. ⌜ now (size .exit) ≡ sizeAfter (lengthFor (problemCards (now (problems .entry))) (length (now (buffer .entry)))) (now (size .entry)) ⌝ }
+pub extern "C" fn tailfiddle_write(
+    version: u32,
+    form: u32,
+    problems: &[u8],
+    buffer: &mut [u8],
+    size: &mut usize,
+) -> u32
+    ensures { λ r. ⌜ r ≡ refusalIn (lengthFor (problemDeck version form (now (problems .entry))) (length (now (buffer .entry)))) ⌝ }
+    ensures { λ _. ⌜ now (buffer .exit) ≡ bufferAfter (problemDeck version form (now (problems .entry))) (now (buffer .entry)) ⌝ }
+    ensures { λ _. ⌜ now (size .exit) ≡ sizeAfter (lengthFor (problemDeck version form (now (problems .entry))) (length (now (buffer .entry)))) (now (size .entry)) ⌝ }
 {
-    match problems::write(problems, buffer) {
+    match problems::write(version, form, problems, buffer) {
         Written::Deck(length) => {
             *size = length;
             0

@@ -1,4 +1,4 @@
--- Pieces of bytes one behind the other in a lent buffer, and a whole handed over: RULES, Text 4 and Writing a deck 4. Definitions only.
+-- Pieces of bytes one behind the other in a lent buffer, and a whole handed over: RULES, Text 4 and Writing a deck 5. Definitions only.
 use Prim.Native.Nat.{ℕ, _+_, min}
 use mathlib.Core.Path.{_≡_}
 use mathlib.Core.Bool.{cond}

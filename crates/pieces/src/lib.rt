@@ -1,5 +1,5 @@
 // Pieces of bytes made in a lent buffer, one behind the other, and a whole handed over. docs/RULES.md,
-// Text 4 and Writing a deck 4.
+// Text 4 and Writing a deck 5.
 //
 // Every function here is proved, the public ones are total, and the crate assumes nothing.
 ghost use mathlib.Core.Path.{_≡_};

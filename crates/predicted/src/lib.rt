@@ -1,5 +1,5 @@
 // The card of a problem: Kepler is run on it, and its card is solved or refused. docs/RULES.md, Writing
-// a deck 1.
+// a deck 2.
 //
 // Every function here is proved, `put` is total, and the crate assumes nothing.
 use card::Kind;
@@ -7,11 +7,14 @@ use conic::Outcome;
 use conic::Problem;
 use conic::State;
 use ruling::Reason;
+use version::Version;
 ghost use mathlib.Core.Path.{_≡_};
+ghost use mathlib.Core.List.{_++_};
 ghost use Prim.Native.Nat.{_≤_};
 ghost use lib.ListN.{length};
 ghost use Rattle.pieces.specs.Pieces.{Put};
 ghost use Rattle.words.specs.Words.{wordsBytes};
+ghost use Rattle.version.specs.Version.{largestTag};
 ghost use Rattle.conic.specs.Said as conic;
 ghost use Rattle.kepler.specs.Kepler.{keplerOf};
 ghost use Rattle.card.specs.Fields.{problemSize, problemOf};
@@ -32,28 +35,33 @@ pub enum Placed {
     Refused(Reason),
 }
 
-// Predicts the problem with which the bytes begin and puts its card's body into out from index at on,
-// as far as out goes.
-pub fn put(problems: &[u8], out: &mut [u8], at: usize) -> Placed
-    ensures { λ r. ⌜ said r ≡ placedIn (now (out .entry)) at (firstCard (now (problems .entry))) ⌝ }
-    ensures { λ r. ⌜ now (out .exit) ≡ withBody (now (out .entry)) at (firstCard (now (problems .entry))) ⌝ }
+// Predicts the problem with which the bytes begin and puts the body of its card in a deck of this version
+// into out from index at on, as far as out goes. Object and epoch stand behind the problem where the
+// version has them, and go to the card as they are.
+pub fn put(version: Version, problems: &[u8], out: &mut [u8], at: usize) -> Placed
+    ensures { λ r. ⌜ said r ≡ placedIn (now (out .entry)) at (firstCard version (now (problems .entry))) ⌝ }
+    ensures { λ r. ⌜ now (out .exit) ≡ withBody (now (out .entry)) at (firstCard version (now (problems .entry))) ⌝ }
 {
-    if problems.len() < card::PROBLEM {
+    let size = card::given(version);
+    if problems.len() < size {
         return Placed::Refused(Reason::BytesDoNotFit);
     }
     let made = answered(&problems[..card::PROBLEM]);
     let outcome = made.outcome;
     let kind = kind_of(outcome);
-    Placed::Card(kind, put_body(made, kind, out, at))
+    Placed::Card(
+        kind,
+        put_body(made, &problems[card::PROBLEM..size], kind, out, at),
+    )
 }
 
 // The body of a card.
-fn put_body(made: Card, kind: Kind, page: &mut [u8], at: usize) -> usize
-    requires { ⌜ length (givenIn made) ≡ problemSize ⌝ }
-    ensures { λ r. ⌜ Put (now (page .entry)) at (bodyOf kind (givenIn made) (answerFor (conic.said (made .outcome)))) (now (page .exit)) r ⌝ }
+fn put_body(made: Card, tag: &[u8], kind: Kind, page: &mut [u8], at: usize) -> usize
+    requires { ⌜ (length (givenIn made) ≡ problemSize) × (length (now tag) ≤ largestTag) ⌝ }
+    ensures { λ r. ⌜ Put (now (page .entry)) at (bodyOf kind (givenIn made) (now (tag .entry) ++ answerFor (conic.said (made .outcome)))) (now (page .exit)) r ⌝ }
 {
     let mut fields = [0u8; card::FIELDS];
-    let end = put_card(made, &mut fields, 0);
+    let end = put_card(made, tag, &mut fields, 0);
     layout::put_body(kind, &fields[..end], page, at)
 }
 
@@ -102,14 +110,15 @@ fn kind_of(outcome: Outcome) -> Kind
 }
 
 // A card's fields, without spares.
-fn put_card(made: Card, fields: &mut [u8], at: usize) -> usize
+fn put_card(made: Card, tag: &[u8], fields: &mut [u8], at: usize) -> usize
     requires { ⌜ at ≤ length (now fields) ⌝ }
-    ensures { λ r. ⌜ Put (now (fields .entry)) at (fieldsHeld made) (now (fields .exit)) r ⌝ }
+    ensures { λ r. ⌜ Put (now (fields .entry)) at (fieldsHeld made (now (tag .entry))) (now (fields .exit)) r ⌝ }
 {
     let given = made.given;
     let outcome = made.outcome;
     let numbers = put_words(fields, at, &given);
-    let end = words::put_half(fields, numbers, made.problem.limit);
+    let limit = words::put_half(fields, numbers, made.problem.limit);
+    let end = pieces::put(fields, limit, tag);
     put_answer(outcome, fields, end)
 }
 

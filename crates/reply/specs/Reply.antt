@@ -1,11 +1,10 @@
--- What a program that makes a deck writes: RULES, Writing a deck 7. Definitions only.
+-- What a program that makes a deck writes: RULES, Writing a deck 8. Definitions only.
 use Prim.Native.Nat.{ℕ}
 use mathlib.Core.List.{List, [], _∷_}
 use Rattle.pieces.specs.Pieces.{joined, putIn, endIn}
 use Rattle.text.specs.Text.{text, count}
 use Rattle.rows.specs.Rows.{Checked, pass, refuse}
-use Rattle.card.specs.Fields.{Card}
-use Rattle.contents.specs.Contents.{largestDeck}
+use Rattle.contents.specs.Contents.{Deck, largestDeck}
 use Rattle.layout.specs.Written.{deckFor}
 
 -- the line of a refused deck
@@ -26,6 +25,6 @@ abbrev pub replied : Checked (List ℕ) → List ℕ
 replied (pass deck) = deck
 replied (refuse k) = refusedLine k
 
--- what is replied for cards, or for the refusal that they came to: there is room for any deck
-abbrev pub replyOf : Checked (List Card) → List ℕ
+-- what is replied for a deck, or for the refusal that there is in its place: there is room for any deck
+abbrev pub replyOf : Checked Deck → List ℕ
 replyOf m = replied (deckFor m largestDeck)

@@ -1,5 +1,5 @@
 // What a program that makes a deck writes: the deck, or one line with the number of the refusal.
-// docs/RULES.md, Writing a deck 7 and The check program's listing 5.
+// docs/RULES.md, Writing a deck 8 and The check program's listing 5.
 //
 // Every function here is proved and total, and the crate assumes nothing.
 use layout::Written;

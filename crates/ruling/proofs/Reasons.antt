@@ -22,6 +22,7 @@ reasons =
     ∷ why.ListTooShort
     ∷ why.TooManyGiven
     ∷ why.NoRoom
+    ∷ why.OtherForm
     ∷ []
 
 abbrev pub reasonOf : ℕ → Reason
@@ -40,4 +41,5 @@ reason-is why.BytesLeftOver = refl
 reason-is why.ListTooShort = refl
 reason-is why.TooManyGiven = refl
 reason-is why.NoRoom = refl
+reason-is why.OtherForm = refl
 reason-is why.BytesDoNotFit = refl

@@ -47,4 +47,5 @@ reasonNumber why.BytesLeftOver = 38
 reasonNumber why.ListTooShort = 39
 reasonNumber why.TooManyGiven = 40
 reasonNumber why.NoRoom = 41
+reasonNumber why.OtherForm = 42
 reasonNumber why.BytesDoNotFit = 46

@@ -51,7 +51,7 @@ impl Verdict {
 }
 
 // Why a deck is refused, or is not written. ListTooShort is of the verdict list, which `deck` is lent;
-// the last three are of the crates that write decks.
+// the last four are of the crates that write decks.
 pub enum Reason {
     TooShort,
     OtherVersion,
@@ -65,6 +65,7 @@ pub enum Reason {
     ListTooShort,
     TooManyGiven,
     NoRoom,
+    OtherForm,
     BytesDoNotFit,
 }
 
@@ -86,6 +87,7 @@ impl Reason {
             Reason::ListTooShort => 39,
             Reason::TooManyGiven => 40,
             Reason::NoRoom => 41,
+            Reason::OtherForm => 42,
             Reason::BytesDoNotFit => 46,
         }
     }

@@ -1,51 +1,71 @@
 // Tries the refusals of writing, taking apart and copying that `write_deck` and `copy_deck` can't reach,
-// and what becomes of what is lent. The problem on standard input makes a deck of one card, 148 bytes.
-// It is written into parts of a buffer, of 7 to 150 bytes; taken apart into short lists and lists that
-// fit; its fields are written anew as a card of kind 0, 1 and 2, as one into a short buffer, and as
-// 257, and fields that are all 0 as a card of kind 3; and the deck is copied. A line is written for
-// each list or buffer of which a part is lent: the refusal's number (0: none), and how many of its
+// and what becomes of what is lent. The problem on standard input, with object and epoch behind it, makes
+// a deck of one card, of 148 bytes in version 1 and of 160 in version 2. It is written into parts of a
+// buffer, in each version and in the form of the other one; taken apart into short lists and lists that fit;
+// its fields are written anew as a card of kind 0, 1 and 2, as one into a short buffer, as 257, and as 257 in
+// another version, and fields that are all 0 as a card of kind 3; and the deck is copied. A line is written
+// for each list or buffer of which a part is lent: the refusal's number (0: none), and how many of its
 // places still have the value 97 that all had.
 use apart::Apart;
 use layout::Written;
 ghost use Prim.Native.Nat.{_≤_};
 
 // The bytes of which a part is lent.
-const SIZE: usize = 150;
+const SIZE: usize = 162;
 
 fn main() {
-    let mut space = [0u8; card::PROBLEM];
-    let got = stdio::read(&mut space, card::PROBLEM);
-    write_in(&space[..got], 7);
-    write_in(&space[..got], 147);
-    write_in(&space[..got], 148);
-    write_in(&space[..got], 150);
+    let mut space = [0u8; card::PROBLEM + version::TAG];
+    let got = stdio::read(&mut space, card::PROBLEM + version::TAG);
+    if got < card::PROBLEM + version::TAG {
+        return;
+    }
+    write_all(&space);
     let mut deck = [0u8; 148];
-    problems::write(&space[..got], &mut deck);
+    problems::write(1, 0, &space[..card::PROBLEM], &mut deck);
     take_in(&deck, 0, 124);
     take_in(&deck, 1, 123);
     take_in(&deck, 1, 124);
     finish_all(&deck);
     copy_in(&deck, 147);
     copy_in(&deck, 148);
+    let mut tagged = [0u8; 160];
+    problems::write(2, 1, &space, &mut tagged);
+    take_in(&tagged, 1, 135);
+    take_in(&tagged, 1, 136);
+    copy_in(&tagged, 159);
+    copy_in(&tagged, 160);
+}
+
+// Writes the problem's deck in each version, and in none.
+fn write_all(problem: &[u8; card::PROBLEM + version::TAG]) {
+    write_in(1, 0, &problem[..card::PROBLEM], 7);
+    write_in(1, 0, &problem[..card::PROBLEM], 147);
+    write_in(1, 0, &problem[..card::PROBLEM], 148);
+    write_in(1, 0, &problem[..card::PROBLEM], 150);
+    write_in(2, 1, &problem[..], 159);
+    write_in(2, 1, &problem[..], 160);
+    write_in(2, 0, &problem[..card::PROBLEM], 162);
+    write_in(1, 1, &problem[..], 162);
+    write_in(3, 1, &problem[..], 162);
 }
 
 // Writes the problem's deck.
-fn write_in(problem: &[u8], room: usize)
-    requires { ⌜ room ≤ 150 ⌝ }
+fn write_in(number: u32, form: u32, problem: &[u8], room: usize)
+    requires { ⌜ room ≤ 162 ⌝ }
 {
     let mut buffer = [97u8; SIZE];
-    let answer = problems::write(problem, &mut buffer[..room]);
+    let answer = problems::write(number, form, problem, &mut buffer[..room]);
     tell(b"write", refusal(answer), kept(&buffer));
 }
 
 // Takes the deck apart, with so many places for kinds, and room for fields.
 fn take_in(deck: &[u8], places: usize, room: usize)
-    requires { ⌜ (places ≤ 2) × (room ≤ 150) ⌝ }
+    requires { ⌜ (places ≤ 2) × (room ≤ 162) ⌝ }
 {
     let mut kinds = [97u32; 2];
     let mut fields = [97u8; SIZE];
     let number = match apart::take(deck, &mut kinds[..places], &mut fields[..room]) {
-        Apart::Cards(_, _) => 0,
+        Apart::Cards(_, _, _) => 0,
         Apart::Refused(why) => why.number(),
     };
     let left = std::num::wrapping_add_u32(same(kinds[0]), same(kinds[1]));
@@ -57,26 +77,27 @@ fn take_in(deck: &[u8], places: usize, room: usize)
 fn finish_all(deck: &[u8]) {
     let mut fields = [0u8; 124];
     apart::take(deck, &mut [0u32; 1], &mut fields);
-    finish_in(&[0u32; 1], &fields, 150);
-    finish_in(&[1u32; 1], &fields, 150);
-    finish_in(&[2u32; 1], &fields, 150);
-    finish_in(&[3u32; 1], &[0u8; 104], 150);
-    finish_in(&[1u32; 1], &fields, 147);
-    finish_in(&[1u32; 257], &fields, 150);
+    finish_in(1, &[0u32; 1], &fields, 150);
+    finish_in(1, &[1u32; 1], &fields, 150);
+    finish_in(1, &[2u32; 1], &fields, 150);
+    finish_in(1, &[3u32; 1], &[0u8; 104], 150);
+    finish_in(1, &[1u32; 1], &fields, 147);
+    finish_in(1, &[1u32; 257], &fields, 150);
+    finish_in(2, &[1u32; 257], &fields, 150);
 }
 
-// Writes finished cards.
-fn finish_in(kinds: &[u32], fields: &[u8], room: usize)
-    requires { ⌜ room ≤ 150 ⌝ }
+// Writes finished cards without object and epoch.
+fn finish_in(number: u32, kinds: &[u32], fields: &[u8], room: usize)
+    requires { ⌜ room ≤ 162 ⌝ }
 {
     let mut buffer = [97u8; SIZE];
-    let answer = writer::write(kinds, fields, &mut buffer[..room]);
+    let answer = writer::write(number, 0, kinds, fields, &mut buffer[..room]);
     tell(b"finish", refusal(answer), kept(&buffer));
 }
 
 // Copies the deck.
 fn copy_in(deck: &[u8], room: usize)
-    requires { ⌜ room ≤ 150 ⌝ }
+    requires { ⌜ room ≤ 162 ⌝ }
 {
     let mut buffer = [97u8; SIZE];
     let answer = copier::copy(deck, &mut buffer[..room]);

@@ -6,6 +6,7 @@ use mathlib.Core.Bool.{cond}
 use mathlib.Core.List.{List, [], _∷_, _++_}
 use lib.Dec.{ltb}
 use lib.Ieee.{Float}
+use lib.IntN.{ℤ, pos, negsuc}
 use Rattle.exact.specs.Numbers.{wordOf}
 
 -- Text 1: a word as it is quoted, a byte a character
@@ -29,6 +30,11 @@ count n = 32 ∷ decimal 10 n
 -- Text 2: a whole number on a sheet, which has at most twenty digits
 abbrev pub whole : ℕ → List ℕ
 whole n = 32 ∷ decimal 20 n
+
+-- Text 2: an epoch, which may be negative
+abbrev pub signed : ℤ → List ℕ
+signed (pos n) = whole n
+signed (negsuc n) = 32 ∷ 45 ∷ decimal 20 (n + 1)
 
 -- Text 3: the last k hex digits of n
 unfoldable pub hex : (k n : ℕ) → List ℕ

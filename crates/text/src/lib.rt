@@ -1,8 +1,9 @@
-// Text in a lent buffer: counts, whole numbers and numbers, which stand behind each other as all pieces do.
-// docs/RULES.md, Text.
+// Text in a lent buffer: counts, whole numbers, epochs and numbers, which stand behind each other as all
+// pieces do. docs/RULES.md, Text.
 //
 // Every function here is proved, the public ones are total, and the crate assumes nothing.
 ghost use mathlib.Core.Path.{_≡_};
+ghost use mathlib.Core.List.{_∷_};
 ghost use Prim.Native.Nat.{_<_};
 ghost use Rattle.pieces.specs.Pieces.{putIn, endIn};
 ghost use Rattle.text.specs.Text as text;
@@ -15,12 +16,32 @@ pub fn count(out: &mut [u8], at: usize, n: u32) -> usize
     whole(out, at, n as u64)
 }
 
-// A space, and n in decimal, from the last digit on.
+// A space, and n in decimal.
 pub fn whole(out: &mut [u8], at: usize, n: u64) -> usize
     ensures { λ r. ⌜ r ≡ endIn (now (out .entry)) at (text.whole n) ⌝ }
     ensures { λ r. ⌜ now (out .exit) ≡ putIn (now (out .entry)) at (text.whole n) ⌝ }
 {
-    let mut digits = [32u8; 21];
+    led(out, at, n, 32)
+}
+
+// A space, and n in decimal, with `-` before the digits where it is negative.
+pub fn signed(out: &mut [u8], at: usize, n: i64) -> usize
+    ensures { λ r. ⌜ r ≡ endIn (now (out .entry)) at (text.signed n) ⌝ }
+    ensures { λ r. ⌜ now (out .exit) ≡ putIn (now (out .entry)) at (text.signed n) ⌝ }
+{
+    if n < 0 {
+        let end = pieces::put(out, at, b" ");
+        return led(out, end, (-1 - n) as u64 + 1, 45);
+    }
+    led(out, at, n as u64, 32)
+}
+
+// The byte lead, and n in decimal behind it, from the last digit on.
+fn led(out: &mut [u8], at: usize, n: u64, lead: u8) -> usize
+    ensures { λ r. ⌜ r ≡ endIn (now (out .entry)) at (lead ∷ text.decimal 20 n) ⌝ }
+    ensures { λ r. ⌜ now (out .exit) ≡ putIn (now (out .entry)) at (lead ∷ text.decimal 20 n) ⌝ }
+{
+    let mut digits = [lead; 21];
     digits[20] = digit(n % 10);
     let mut left = 20;
     let mut rest = n / 10;

@@ -19,7 +19,7 @@ use Rattle.arc.proofs.Departing.{departs-at, departure-fits}
 use Rattle.lambert.specs.Lambert.{lambertOf}
 use Rattle.lambert.proofs.Laws.{IsSolved, solved-means}
 use Rattle.card.specs.declared.Kind.the-variants as kind
-use Rattle.card.specs.Fields.{sizeOf, transferSize, answerAt, transferOf, zOf, positionFrom}
+use Rattle.card.specs.Fields.{sizeOf, questionSize, answerAt, transferOf, zOf, positionFrom}
 use Rattle.card.specs.Made.{numbersBytes, transferNumbers, transferBody}
 use Rattle.card.proofs.Numbers.{AllFit, length-numbers, word-in}
 use Rattle.card.proofs.Given.{given-transfer}
@@ -27,7 +27,7 @@ use Rattle.compared.proofs.Words.{vectorWords, same-words}
 use Rattle.transfer_verdict.specs.TransferVerdict.{transferCard}
 use Rattle.transfer_verdict.proofs.Accepted.{velocityWords, residualOf, transfer-passes}
 
-module _ (given : List ℕ) (sized : length given ≡ transferSize) (z : Float) (v : Vector) where
+module _ (given : List ℕ) (sized : length given ≡ questionSize) (z : Float) (v : Vector) where
   -- the body has the size of its kind
   pub made-size : length (transferBody given z v) ≡ sizeOf kind.Transfer
   unfolding sizeOf

@@ -32,7 +32,7 @@ use Rattle.entry.proofs.Refusals.{Numbered, first-numbered}
 use Rattle.units.proofs.Places.{FirstNotFinite}
 use Rattle.kepler.proofs.Laws.{refusal-numbered, first-named, IsSolved, solved-means}
 use Rattle.card.specs.declared.Kind.the-variants as kind
-use Rattle.card.specs.Fields.{problemSize, transferSize, transferOf, spareSize, answerAt, problemOf, spareOf, xOf, refusalOf, lastSpareOf}
+use Rattle.card.specs.Fields.{problemSize, questionSize, transferOf, spareSize, answerAt, problemOf, spareOf, xOf, refusalOf, lastSpareOf}
 use Rattle.card.specs.Made.{numbersBytes, spare, solvedNumbers, solvedBody, transferBody, refusedBody, cardFor}
 use Rattle.card.proofs.Numbers.{AllFit, word-in}
 use Rattle.card.proofs.Given.{given-problem, behind-given}
@@ -125,6 +125,6 @@ module _ (given : List ℕ) (sized : length given ≡ problemSize) where
 
 -- ---- a solved transfer: each that we solve, made into a card
 
-pub transfer-made-passes : (given : List ℕ) → length given ≡ transferSize → (q : Transfer) (z : Float) (n : ℕ) (velocity : Vector) → transferOf given ≡ pass q → lambertOf q ≡ answer.solved z n velocity → numberIn (verdictOn kind.Transfer (transferBody given z velocity)) ≡ 0
+pub transfer-made-passes : (given : List ℕ) → length given ≡ questionSize → (q : Transfer) (z : Float) (n : ℕ) (velocity : Vector) → transferOf given ≡ pass q → lambertOf q ≡ answer.solved z n velocity → numberIn (verdictOn kind.Transfer (transferBody given z velocity)) ≡ 0
 unfolding verdictOn
 transfer-made-passes given sized q z n velocity asked found = ap (λ (c : Checked Float). numberIn (asSolved c)) (transfer.made-passes given sized z velocity q n asked found .1)
