@@ -6,7 +6,7 @@ and worst are said in decimals of seconds, where the deck is accepted, and what 
 
 from __future__ import annotations
 
-from front import built, kit, listing, page, streams, words
+from front import built, decks, kit, listing, page, streams
 from front.listing import Listing
 from front.streams import Stop
 
@@ -41,6 +41,6 @@ def checked(command: str, name: str) -> tuple[bytes, bytes, Listing]:
 def fetch(command: str, source: int) -> bytes:
     """A deck, as far as it is read: one byte more than the largest deck has."""
     try:
-        return streams.read_most(source, words.MOST_DECK + 1)
+        return streams.read_most(source, decks.MOST_DECK + 1)
     except OSError as failure:
         raise Stop(f"{command}: the deck was not read to its end: {failure.strerror}") from None

@@ -62,29 +62,40 @@ transfer the way in 4 bytes, 0 for short and 1 for long; as many as come. The li
 program's own, and the line 'short' ends them where an input is cut off. Those of digits are 'turn'
 with what stands in a row of the table, the pair as 0 to 3; 'rounded' with both numbers; 'root'.
 
-write takes a problem a line: MU RX RY RZ VX VY VZ DT LIMIT, with blanks between them. What stands
-behind a # is a comment, and lines without a problem are passed over. Each problem is predicted, and
-becomes a card: solved, with its x and state, or refused, with the reason's number. OUT appears
-whole or not at all, in the place of an older one; '-' is standard input for PROBLEMS, and standard
-output for OUT. On standard error it says how many cards are solved and refused, and why those are.
-Where a line is wrong, or there are more than 256 problems, it says so, and nothing is written.
+write takes a problem a line: MU RX RY RZ VX VY VZ DT LIMIT, with blanks between them, and in front
+of them OBJECT EPOCH, in every line or in none. With these the deck is of version 2, and its cards
+have them; without them it is of version 1, and on its cards they are absent, which is not the same
+as 0. A deck without cards is of version 2. What stands behind a # is a comment, and lines without a
+problem are passed over. Each problem is predicted, and becomes a card: solved, with its x and
+state, or refused, with the reason's number. OUT appears whole or not at all, in the place of an
+older one; '-' is standard input for PROBLEMS, and standard output for OUT. On standard error it
+says how many cards are solved and refused, and why those are. Where a line is wrong, or there are
+more than 256 problems, it says so, and nothing is written.
+
+OBJECT is a whole number, 0 to 4294967295, and EPOCH one of seconds, -9223372036854775808 to
+9223372036854775807. An epoch can also be written as UTC, in this form: 2026-11-15T12:00:00Z, of a
+year from 0001 to 9999. It is then so many seconds from 1970-01-01T00:00:00Z on, here 1794744000,
+with 86400 in each day: a leap second, :60, is not taken. Neither OBJECT nor EPOCH changes an answer
+or a verdict.
 
 check prints the program's listing to the letter, and only when it is whole. A line for each card:
-'card', its place, 'solved' or 'refused', and the verdict, 0 where it is accepted; a solved transfer
-is listed as 'solved' too. Then the totals; then 'mean' and 'worst', as words in hex, or 'none': of
-the residuals, in seconds, of the cards that are accepted as solved. A residual is |T - t| times the
-card's own unit of time. Of a deck that is refused, one line: 'deck' and the reason's number. Then,
-on standard error, it says of a deck that is not refused mean and worst in decimals of seconds, or
-that there is neither; and below that what each verdict but 0, or the reason's number, means, a line
-each.
+'card', its place, 'solved' or 'refused', its object and its epoch, or '- -' where they are absent,
+and the verdict, 0 where it is accepted; a solved transfer is listed as 'solved' too. Then the
+totals; then 'mean' and 'worst', as words in hex, or 'none': of the residuals, in seconds, of the
+cards that are accepted as solved. A residual is |T - t| times the card's own unit of time. Of a
+deck that is refused, one line: 'deck' and the reason's number. Then, on standard error, it says of
+a deck that is not refused mean and worst in decimals of seconds, or that there is neither; and
+below that what each verdict but 0, or the reason's number, means, a line each. Decks of both
+versions are read.
 
-show prints for each card its place, kind and verdict, the problem and the answer, with units, in as
-few digits as read back as the same number; then the totals, and mean and worst in seconds. They and
-the verdicts are check's. Of a deck that is refused it says why, and prints nothing. With --problems
-it prints a line for each card, in 17 digits, that write reads back to the bit: of a deck that write
-has written, write makes the same bytes again, but for a refused card from before with 1, which gets
-its own number of 101 to 108. write takes no transfers: they are left out, and it says on standard
-error how many.
+show prints for each card its place, kind and verdict, its object, and its epoch with the UTC beside
+it, or that they are absent, the problem and the answer, with units, in as few digits as read back
+as the same number; then the totals, and mean and worst in seconds. They and the verdicts are
+check's. Of a deck that is refused it says why, and prints nothing. With --problems it prints a line
+for each card, numbers in 17 digits and the epoch in seconds, that write reads back to the bit: of a
+deck that write has written, write makes the same bytes again, but for a refused card from before
+with 1, which gets its own number of 101 to 108. write takes no transfers: they are left out, and it
+says on standard error how many.
 
 why prints what docs/REFUSALS.md says of the NUMBER of a refusal or verdict, written as in the lines
 above: 22, and not 022. Without a NUMBER it prints each that there is, and in short what it means.

@@ -5,22 +5,30 @@ The verdicts are the program's; the front adds nothing to them and leaves nothin
 
 from __future__ import annotations
 
+from collections import namedtuple
+
 from front import words
+from front.decks import LEAST_EPOCH, MOST_EPOCH, MOST_OBJECT, Tag
 
 # The word of 2^988, the most seconds that a mean or a worst can have (docs/RULES.md, "Tally"). Above it come
 # larger numbers, infinity, the NaNs, and then all that has a minus.
 MOST_SECONDS = 0x7DB0000000000000
 # The word that stands in a card's line, for each kind of card.
 KIND_WORDS = {"solved": "solved", "refused": "refused", "transfer": "solved"}
+# What stands for an object and for an epoch where there is none.
+ABSENT = "-"
+# A count, a place, a verdict and a refusal's number are below 10^10.
+MOST_NUMBER = 10**10 - 1
+
+# What a card's line says: the word of its kind, its tag or None, its verdict.
+Line = namedtuple("Line", "word tag verdict")
 
 
 class Listing:
-    """What a listing says: the deck's refusal, or each card's kind and verdict, the totals, and mean and
-    worst of the residuals in seconds."""
+    """What a listing says: the deck's refusal, or each card's line, the totals, and mean and worst of the
+    residuals in seconds."""
 
-    def __init__(
-        self, refusal: int | None, cards: list[tuple[str, int]], totals: list[int], residuals: list[int]
-    ) -> None:
+    def __init__(self, refusal: int | None, cards: list[Line], totals: list[int], residuals: list[int]) -> None:
         self.refusal = refusal
         self.cards = cards
         self.totals = totals  # solved, refused, rejected
@@ -28,7 +36,7 @@ class Listing:
 
     def numbers(self) -> list[int]:
         """The numbers that have a meaning, other than 0."""
-        return [number for number in (self.refusal, *(verdict for _, verdict in self.cards)) if number]
+        return [number for number in (self.refusal, *(card.verdict for card in self.cards)) if number]
 
     def status(self) -> int:
         """0 where every card is accepted, 1 where one is rejected or the deck is refused."""
@@ -52,16 +60,25 @@ def read(text: bytes) -> Listing:
         return Listing(number(lines[0][5:]), [], [0, 0, 0], [])
     *cards, counts, mean, worst = lines
     found = [read_card(place, line) for place, line in enumerate(cards, 1)]
+    if len({card.tag is None for card in found}) > 1:
+        raise ValueError("some cards have an object and an epoch, and others have neither")
     totals = read_totals(counts)
     return Listing(None, found, totals, read_residuals(mean, worst, totals[0]))
 
 
-def read_card(place: int, line: str) -> tuple[str, int]:
-    """The kind and the verdict in the line of the card at a place."""
-    card, at, kind, verdict = line.split(" ")
-    if card != "card" or number(at) != place or kind not in KIND_WORDS.values():
+def read_card(place: int, line: str) -> Line:
+    """What the line of the card at a place says."""
+    card, at, word, object_text, epoch_text, verdict = line.split(" ")
+    if card != "card" or number(at) != place or word not in KIND_WORDS.values():
         raise ValueError(f"'{line}' is not the line of card {place}")
-    return kind, number(verdict)
+    return Line(word, read_tag(object_text, epoch_text), number(verdict))
+
+
+def read_tag(object_text: str, epoch_text: str) -> Tag | None:
+    """The object and the epoch in a card's line; None where both are absent."""
+    if object_text == epoch_text == ABSENT:
+        return None
+    return Tag(number(object_text, 0, MOST_OBJECT), number(epoch_text, LEAST_EPOCH, MOST_EPOCH))
 
 
 def read_totals(line: str) -> list[int]:
@@ -89,8 +106,9 @@ def read_residual(name: str, line: str) -> int:
     return int(word, 16)
 
 
-def number(digits: str) -> int:
-    """A count, place, verdict or refusal's number."""
-    if not digits.isdigit() or len(digits) > 10:
-        raise ValueError(f"'{digits}' is not a number")
-    return int(digits)
+def number(text: str, least: int = 0, most: int = MOST_NUMBER) -> int:
+    """A whole number from `least` to `most`, which has to be written as the program writes it."""
+    found = words.whole_within(text, least, most)
+    if found is None or text != str(found):
+        raise ValueError(f"'{text}' is not a number")
+    return found

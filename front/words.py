@@ -1,9 +1,9 @@
 """Numbers, words and records: what people write, and the bytes that the programs read and write.
 
 A number is a decimal, taken as the nearest binary64 number (beyond the largest one: infinity), or 0x
-and the 16 hex digits of a word; it becomes a word, a whole number of 64 bits. Numbers in records and
-decks are little-endian. The layout of a record, a card and a deck stands here, and nowhere else in
-the front; docs/RULES.md, "The deck" and "Lines", says what it is.
+and the 16 hex digits of a word; it becomes a word, a whole number of 64 bits. Numbers in records are
+little-endian. The layout of a record stands here, and nowhere else in the front; docs/RULES.md,
+"Lines", says what it is.
 """
 
 from __future__ import annotations
@@ -26,23 +26,6 @@ MOST_LIMIT = 100
 TRANSFER_NAMES = ("MU", "X1", "Y1", "Z1", "X2", "Y2", "Z2", "DT", "LIMIT", "WAY")
 TRANSFER = struct.Struct("<8QII")
 WAYS = ("short", "long")  # 0 and 1
-
-# A deck: its header, an entry for each card, the cards' bodies. A body is what was given, and an answer.
-HEADER = struct.Struct("<II")  # version, count
-ENTRY = struct.Struct("<III")  # kind, offset, length
-KINDS = {1: "solved", 2: "refused", 3: "transfer"}
-GIVEN = TRANSFER  # or a problem, with a spare where a transfer has its way
-ANSWERS = {
-    "solved": struct.Struct("<7Q"),  # x, position, velocity
-    "refused": struct.Struct("<II"),  # the refusal's number, spare
-    "transfer": struct.Struct("<4Q"),  # z, velocity
-}
-SIZES = {kind: GIVEN.size + answer.size for kind, answer in ANSWERS.items()}
-# The numbers that a refused card can have: those with which a prediction after a time can be refused, and 1,
-# which a card from before has for each of 101 to 108.
-REFUSALS = frozenset((1, 2, 3, 5, 6, 7, 8, 9, 10, 11, 14, *range(101, 109)))
-MOST_CARDS = 256
-MOST_DECK = HEADER.size + MOST_CARDS * (ENTRY.size + max(SIZES.values()))
 
 
 class Wrong(ValueError):
@@ -78,12 +61,25 @@ def is_hex(digits: str) -> bool:
     return len(digits) == 16 and HEX.issuperset(digits)
 
 
-def whole(text: str) -> int:
+def whole(text: str, name: str = "LIMIT") -> int:
     """A whole number of 4 bytes as people write it."""
-    digits = text.lstrip("0")
-    if text.isascii() and text.isdigit() and len(digits) <= 10 and int(digits or "0") <= MOST_WHOLE:
-        return int(digits or "0")
-    raise Wrong(f"'{text}' is not a whole number from 0 to {MOST_WHOLE}, as LIMIT must be")
+    number = whole_within(text, 0, MOST_WHOLE)
+    if number is None:
+        raise Wrong(f"'{text}' is not a whole number from 0 to {MOST_WHOLE}, as {name} must be")
+    return number
+
+
+def whole_within(text: str, least: int, most: int) -> int | None:
+    """The whole number that a text is; None where it is none of these. Where some of them are below zero, a
+    minus may stand in front."""
+    minus = least < 0 and text.startswith("-")
+    digits = text[1:] if minus else text
+    # Thousands of digits, which int does not take, are too many or zeros in front.
+    size = digits.lstrip("0") or "0"
+    if not (digits.isascii() and digits.isdigit() and len(size) <= len(str(most))):
+        return None
+    number = -int(size) if minus else int(size)
+    return number if least <= number <= most else None
 
 
 def way(text: str) -> int:
@@ -151,42 +147,3 @@ def transfer(texts: list[str]) -> bytes:
     """The record of a transfer, from the texts that TRANSFER_NAMES names."""
     *numbers, last = texts
     return packed(numbers, LIMIT_PLACE) + struct.pack("<I", way(last))
-
-
-# ---- decks
-
-
-class Card:
-    """The fields of a card, as they stand in its bytes. Where it is refused there is no answer; a
-    transfer alone has a way, and it has no spare."""
-
-    def __init__(self, kind: str, body: bytes) -> None:
-        self.kind = kind
-        *self.numbers, self.limit, last = GIVEN.unpack_from(body)
-        self.way = last if kind == "transfer" else None
-        self.spares = [] if kind == "transfer" else [last]
-        self.answer: tuple[int, ...] = ANSWERS[kind].unpack_from(body, GIVEN.size)
-        self.refusal = 0
-        if kind == "refused":
-            self.refusal, spare = self.answer
-            self.spares.append(spare)
-            self.answer = ()
-
-
-def cards(deck: bytes) -> list[Card]:
-    """The cards of a deck that is whole; ValueError where this is none."""
-    try:
-        version, count = HEADER.unpack_from(deck)
-        found = [card_at(deck, place) for place in range(count)]
-    except (struct.error, KeyError):
-        raise ValueError("the bytes are no whole deck") from None
-    sizes = sum(ENTRY.size + SIZES[card.kind] for card in found)
-    if version != 1 or len(deck) != HEADER.size + sizes:
-        raise ValueError("the bytes are no whole deck")
-    return found
-
-
-def card_at(deck: bytes, place: int) -> Card:
-    """The card at a place, which counts from 0."""
-    kind, offset, length = ENTRY.unpack_from(deck, HEADER.size + place * ENTRY.size)
-    return Card(KINDS[kind], deck[offset : offset + length])

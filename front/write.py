@@ -1,4 +1,4 @@
-"""`write`: a deck of cards from problems in a text file.
+"""`write`: a deck of cards from problems in a text file, of version 2 where these have OBJECT and EPOCH.
 
 The deck's bytes are those of the proved program `write_deck`. They appear in OUT whole or not at all.
 It is said on standard error how many cards were written as solved and as refused, and why those were.
@@ -9,7 +9,7 @@ from __future__ import annotations
 
 import os
 
-from front import built, kit, listing, page, problems, streams, whole, words
+from front import built, decks, kit, listing, page, problems, streams, whole, words
 from front.streams import Stop
 
 PROGRAM = "write_deck"
@@ -22,20 +22,28 @@ def run(texts: list[str]) -> int:
     name, out = texts
     streams.catch_signals("write")
     see_to_room(name, out)
-    records = read_problems(name)
-    made = kit.output_of(built.ready(PROGRAM), b"".join(records))
+    given = read_problems(name)
+    made = kit.output_of(built.ready(PROGRAM), decks.order(given.version, given.records))
     try:
         refusal = listing.read(made).refusal if made.startswith(b"deck ") else None
-        cards = words.cards(made) if refusal is None else []
+        deck = decks.read(made) if refusal is None else None
     except ValueError:
         raise Stop(f"the program {PROGRAM} wrote a deck that is not whole") from None
-    if refusal is not None:
+    if deck is None:
         streams.say(f"nothing is written: the deck is refused with {page.explained(refusal)}")
         return 1
-    if len(cards) != len(records):
-        raise Stop(f"the program {PROGRAM} wrote {len(cards)} cards for {len(records)} problems")
+    see_to_deck(deck, given)
     put(out, made)
-    return say_what(cards)
+    return say_what(deck.cards)
+
+
+def see_to_deck(deck: decks.Deck, given: problems.Problems) -> None:
+    """Stops where the deck is not one for these problems."""
+    cards, wanted = len(deck.cards), len(given.records)
+    if cards != wanted:
+        raise Stop(f"the program {PROGRAM} wrote {cards} cards for {wanted} problems")
+    if deck.version is not given.version:
+        raise Stop(f"the program {PROGRAM} wrote version {deck.version.value}, not {given.version.value}")
 
 
 def see_to_room(name: str, out: str) -> None:
@@ -64,7 +72,7 @@ def is_open(descriptor: int, out: str) -> bool:
     return os.path.samestat(os.fstat(descriptor), os.stat(out))
 
 
-def read_problems(name: str) -> list[bytes]:
+def read_problems(name: str) -> problems.Problems:
     """The problems in a file or on standard input."""
     source = streams.open_input("write", name)
     shown = "standard input" if name == "-" else f"'{name}'"
@@ -87,7 +95,7 @@ def put(out: str, deck: bytes) -> None:
         raise Stop(f"write: '{out}' could not be written: {failure.strerror}") from None
 
 
-def say_what(cards: list[words.Card]) -> int:
+def say_what(cards: list[decks.Card]) -> int:
     """Says how many cards are solved and refused, and why those are. The status."""
     refusals = [card.refusal for card in cards if card.kind == "refused"]
     solved = len(cards) - len(refusals)

@@ -48,11 +48,69 @@ past_far_end() {
         'x above the far end 20: 190'
 }
 
+# Decks of either version that are refused, each number the version's own least, and other versions.
+refused_versions() { # LEAST_OF_1 LEAST_OF_2 LEAST_OF_0_3_LARGEST_AND_OTHERS, each in words
+    local number least words version=1
+    for words in "$1" "$2"; do
+        number=32
+        for least in $words; do
+            printf 'version %s deck %s: %s, ' "$version" "$number" "$least"
+            number=$((number + 1))
+        done
+        version=$((version + 1))
+    done
+    # shellcheck disable=SC2086
+    printf 'version word 0 deck 31: %s, version word 3 deck 31: %s, version word 4294967295 deck 31: %s, another version word deck 31: %s' $3
+}
+
+# Cards of version 2, by kind and verdict.
+version_2() {
+    printf 'version 2 solved 0: 6900, version 2 solved 101: 190, version 2 solved 102: 120, '
+    each 'version 2 solved #: 88' {103..108}
+    printf ', version 2 solved 2: 145, version 2 solved 3: 265, version 2 solved 5: 50, version 2 solved 6: 135, '
+    printf 'version 2 solved 7: 115, version 2 solved 8: 1000, version 2 solved 11: 190, version 2 solved 20: 510, '
+    printf 'version 2 solved 21: 610, version 2 solved 22: 780, version 2 solved 23: 120, version 2 refused 0: 3900, '
+    printf 'version 2 refused 23: 195, version 2 refused 24: 3000, version 2 transfer 0: 1700, version 2 transfer 1: 70, '
+    printf 'version 2 transfer 2: 22, version 2 transfer 3: 80, version 2 transfer 5: 16, version 2 transfer 6: 14, '
+    printf 'version 2 transfer 20: 80, version 2 transfer 21: 210, version 2 transfer 22: 215, version 2 transfer 23: 78, '
+    printf 'version 2 transfer 50: 28, version 2 transfer 51: 56, version 2 transfer 52: 48'
+}
+
+# Objects and epochs: the ends of their ranges, and the first and the last number with so many digits.
+objects_and_epochs() {
+    local digits
+    printf 'absent: 89000, epoch negative: 10000, epoch zero: 1000, epoch positive: 9900, epoch at the lower end: 1500, '
+    printf 'epoch at the upper end: 230, object zero: 2100, object largest: 1700, '
+    for digits in {1..18}; do
+        both negative "epoch first of $digits: 12" "epoch last of $digits: 13"
+        printf ', '
+    done
+    both negative 'epoch first of 19: 16'
+    printf ', '
+    each 'object first of #: 76' {1..10}
+    printf ', '
+    each 'object last of #: 88' {1..9}
+}
+
+# Each of some versions with each of some forms, but for the two pairs that are right.
+fronts() { # LEAST
+    local version form
+    for version in 0 1 2 3 4294967295; do
+        for form in 0 1 2 4294967295; do
+            case "$version $form" in
+            '1 0' | '2 1') ;;
+            *) printf 'version %s form %s: %s, ' "$version" "$form" "$1" ;;
+            esac
+        done
+    done
+    printf 'version 1 form 0: 555, version 2 form 1: 200, another front: 16, no whole front: 25'
+}
+
 # A suite: the program's name here and in the independent program; the form of its inputs: the bytes of
 # one, or, where these have many sizes and each is a file of its own, the ending of the files' names; the
 # fewest inputs that the gate takes; and the fewest of each kind among them: kinds of answer, and for the
-# series, predictions, transfers, cards' numbers, units of time and the far end kinds of input too, so that a
-# list can't leave out what it must try.
+# series, predictions, transfers, cards' numbers, units of time, the far end, versions, objects and epochs kinds
+# of input too, so that a list can't leave out what it must try.
 suites=(
     "roots 8 20000 refused 1: 1000, refused 13: 1000, root: 20000"
     "root_digits 8 9000 refused 1: 100, refused 13: 430, root: 8500, rounded: 8500, turn: 459000"
@@ -73,7 +131,7 @@ at the bound near 180 long: 20, above the bound near 180 long: 20, below the bou
 at the bound near 360: 20, above the bound near 360: 20, below T(0): 200, at T(0): 200, above T(0): 200, \
 below T(36): 200, at T(36): 150, above T(36): 200, ratio below 1e-9: 100, ratio 1e-3 to 0.1: 1000, \
 ratio 0.1 to 10: 5000, ratio 10 to 1e3: 1000, ratio above 1e9: 500"
-    "check_deck .deck 3000 solved 0: 10000, $(each 'solved #: 20' {101..108}), solved 2: 20, solved 3: 20, solved 5: 20, \
+    "check_deck .deck 8000 solved 0: 10000, $(each 'solved #: 20' {101..108}), solved 2: 20, solved 3: 20, solved 5: 20, \
 solved 6: 20, solved 7: 20, solved 8: 20, solved 11: 20, solved 20: 20, solved 21: 20, solved 22: 20, \
 solved 23: 20, refused 0: 5000, refused 23: 20, refused 24: 20, deck 30: 20, deck 31: 20, deck 32: 20, \
 deck 33: 20, deck 34: 20, deck 35: 20, deck 36: 20, deck 37: 20, deck 38: 20, transfer 0: 500, transfer 1: 20, \
@@ -95,13 +153,26 @@ overflow by times in seconds: 30, overflow by sums of times: 40, $(each 'fine nu
 fine number of a later place: 90, fine number of another place: 500, fine number for a solved problem: 14, \
 $(each 'fine number for #: 14' 2 3 {5..11}), old card 0: 600, old card 23: 45, old card 24: 2000, \
 $(each 'old card for #: 75' {101..108}), $(each 'old card for #: 25' 2 3 {5..11}), \
-old card for a solved problem: 2000, old card but for a bit: 140, old and new accepted: 150, longest listing: 1, $(past_far_end)"
-    "write_deck .problems 500 written: 500, solved: 3000, $(each 'refused #: 50' {101..108}), refused 2: 100, \
+old card for a solved problem: 2000, old card but for a bit: 140, old and new accepted: 150, longest listing: 3, \
+longest listing of version 1: 1, $(past_far_end), version 1: 3700, version 2: 1600, refused version 1: 1100, \
+refused version 2: 480, $(refused_versions '53 92 100 195 200 360 100' '17 14 60 165 98 88 37' '24 20 8 98'), \
+$(version_2), $(objects_and_epochs), objects and epochs all different: 1150, epochs alone different: 110, \
+objects and epochs all the same: 145, same but for object and epoch: 225, same but for the version: 780, \
+$(each 'byte altered #: 392' once twice thrice)"
+    "write_deck .problems 900 written: 500, solved: 3000, $(each 'refused #: 50' {101..108}), refused 2: 100, \
 refused 3: 100, refused 5: 50, refused 6: 50, refused 7: 50, refused 8: 50, refused 9: 32, refused 10: 50, refused 11: 50, \
-deck 40: 10, deck 46: 100, cards 0: 4, cards 1: 100, cards 2: 4, cards 255: 3, cards 256: 6, cards between: 100"
-    "copy_deck .deck 600 same: 500, cleared: 60, deck 30: 8, deck 31: 2, deck 32: 2, deck 33: 2, deck 34: 2, \
+deck 40: 10, deck 46: 100, cards 0: 4, cards 1: 100, cards 2: 4, cards 255: 3, cards 256: 6, cards between: 100, \
+version 2 written: 125, version 2 solved: 1900, $(each 'version 2 refused #: 29' {101..106}), \
+$(each 'version 2 refused #: 16' 107 108), $(each 'version 2 refused #: 23' 2 3 {5..11}), version 2 cards 0: 8, \
+version 2 cards 1: 38, version 2 cards 2: 3, version 2 cards 255: 2, version 2 cards 256: 3, version 2 cards between: 72, \
+version 1 deck 40: 21, version 1 deck 46: 110, version 2 deck 40: 16, version 2 deck 46: 60, deck 42: 115, \
+deck 42 before 40: 22, deck 42 before 46: 36, $(fronts 5), epoch negative: 1500, epoch zero: 49, epoch positive: 1600, \
+epoch at the lower end: 24, epoch at the upper end: 18, object zero: 98, object largest: 49"
+    "copy_deck .deck 1100 same: 500, cleared: 60, deck 30: 8, deck 31: 2, deck 32: 2, deck 33: 2, deck 34: 2, \
 deck 35: 2, deck 36: 2, deck 37: 2, deck 38: 2, cards 0: 2, cards 1: 2, cards 2: 2, cards 255: 1, \
-cards 256: 2, cards between: 400, with transfer: 60, refused with transfer: 10, with old card: 260"
+cards 256: 2, cards between: 400, with transfer: 60, refused with transfer: 10, with old card: 260, version 1 same: 525, \
+version 1 cleared: 60, version 2 same: 300, version 2 cleared: 68, refused version 1: 64, refused version 2: 58, \
+$(refused_versions '3 3 8 18 11 16 5' '3 3 4 16 14 8 8' '3 2 2 8')"
 )
 
 independent=independent/target/release/independent
@@ -295,29 +366,58 @@ kinds_of() { # NAME FORM INPUTS ANSWERS
     fi
 }
 
-# Has check_deck list the decks that write_deck wrote for whole problems, 256 at most: each has a card for
-# each problem, and no verdict but 0. Status as compare's.
+# Has check_deck list the decks that write_deck wrote for whole problems, 256 at most, behind a version and its
+# form: each has a card for each problem, with the problem's object and epoch or none, and no verdict but 0. Status
+# as compare's.
 accepted() { # PROBLEMS DECKS
-    local listings=$2.listed name count
+    local listings=$2.listed name version count wrong
     rm -rf "$listings"
-    find "$1" -name '*.problems' -printf '%f %s\n' |
-        awk '$2 % 68 == 0 && $2 <= 256 * 68 { print substr($1, 1, length($1) - 9), $2 / 68 }' >"$2.counts"
+    whole_problems "$1" >"$2.counts"
     if ! while read -r name _; do printf '%s\0' "$2/$name.answer"; done <"$2.counts" | answer_files check_deck "$listings"; then
         echo "check_deck: the proved program failed on a deck that write_deck wrote"
         return 2
     fi
-    while read -r name count; do
-        all_accepted "$count" "$listings/$name.answer" && continue
-        echo "write_deck: check_deck does not accept each card of the deck for $name.problems, $count problems"
-        echo "  it lists:                   $(grep -v '^card .* 0$' "$listings/$name.answer" | head -n 1)"
+    while read -r name version count; do
+        given_tags "$version" "$count" "$1/$name.problems" >"$2.tags"
+        wrong=$(all_accepted "$2.tags" "$listings/$name.answer") && continue
+        echo "write_deck: check_deck does not accept each card of the deck for $name.problems, $count problems, version $version"
+        echo "  it lists:                   $wrong"
         show_input "$1/$name.problems"
         return 1
     done <"$2.counts"
 }
 
-# Whether a listing is one of COUNT cards with the verdict 0: before its last three lines stands nothing else.
-all_accepted() { # COUNT LISTING
-    awk -v count="$1" '/^card [0-9]+ (solved|refused) 0$/ { good++ } END { exit !(good + 0 == count && NR == count + 3) }' "$2"
+# The files of PROBLEMS that have such problems, each with its version and how many they are: 'NAME 2 17'.
+whole_problems() { # PROBLEMS
+    local list=$1.list
+    find "$1" -name '*.problems' -size +7c -print0 | sort -z >"$list"
+    paste -d ' ' <(xargs -0 -r head -q -c 8 <"$list" | od -An -v -t u4 -w8) <(xargs -0 -r stat -c '%s %n' <"$list") |
+        awk '{ each = $1 == 1 && $2 == 0 ? 68 : $1 == 2 && $2 == 1 ? 80 : 0; bytes = $3 - 8 }
+            each && bytes % each == 0 && bytes <= 256 * each {
+                sub(/.*\//, ""); sub(/\.problems$/, "")
+                print $0, each == 68 ? 1 : 2, bytes / each
+            }'
+}
+
+# What the card of each problem is listed with, as od reads it: object and epoch, or '- -'.
+given_tags() { # VERSION COUNT PROBLEMS
+    if [ "$1" = 1 ]; then
+        yes -- '- -' | head -n "$2"
+    else
+        od -An -v -j 8 -w80 -t u4 -t d8 "$3" | awk 'NR % 2 { object = $18; next } { print object, $10 }'
+    fi
+}
+
+# Whether a listing is one of cards with these TAGS and the verdict 0: before its last three lines stands nothing
+# else. Says the first line that is wrong, or the last one where there are too few or too many.
+all_accepted() { # TAGS LISTING
+    awk 'FILENAME == ARGV[1] { tag[++count] = $0; next }
+        { line = $0; lines++ }
+        lines <= count && line != "card " lines " solved " tag[lines] " 0" && line != "card " lines " refused " tag[lines] " 0" {
+            wrong = 1
+            exit
+        }
+        END { if (wrong || lines != count + 3) { print line; exit 1 } }' "$1" "$2"
 }
 
 # The test by physics: transfers are solved, Kepler is set off with each velocity that was found, and its

@@ -6,12 +6,12 @@ from unittest import mock
 
 from front import commands
 from front.tests.stand import Stand
-from front.tests.test_words import REFUSED, SOLVED, TRANSFER, deck_of
+from front.tests.test_decks import TAG, REFUSED, SOLVED, TRANSFER, deck_of
 
 LISTING = """\
-card 1 solved 0
-card 2 refused 24
-card 3 solved 22
+card 1 solved 25544 -3 0
+card 2 refused 25544 -3 24
+card 3 solved 25544 -3 22
 solved {} refused 0 rejected {}
 mean {}
 worst {}
@@ -57,24 +57,29 @@ class Check(Command):
     def test_all_accepted(self):
         for mean, worst, said in SECONDS:
             with self.subTest(said):
-                text = f"card 1 solved 0\nsolved 1 refused 0 rejected 0\nmean {mean}\nworst {worst}\n"
+                text = f"card 1 solved - - 0\nsolved 1 refused 0 rejected 0\nmean {mean}\nworst {worst}\n"
                 self.check_listing(text, 0, f"tailfiddle: {re.escape(said)}\n")
                 self.assertEqual(self.order, [1, 2])
 
     def test_no_card_is_solved(self):
-        rejected = LISTING.format(0, 3, "none", "none").replace("solved 0", "solved 22", 1)
+        rejected = LISTING.format(0, 3, "none", "none").replace("-3 0", "-3 22", 1)
         self.check_listing(rejected, 1, f"tailfiddle: {NEITHER}\n" + OF_22 + OF_24)
-        for lines in ("card 1 refused 0\nsolved 0 refused 1 rejected 0\n", "solved 0 refused 0 rejected 0\n"):
+        for lines in ("card 1 refused 0 0 0\nsolved 0 refused 1 rejected 0\n", "solved 0 refused 0 rejected 0\n"):
             self.check_listing(f"{lines}mean none\nworst none\n", 0, f"tailfiddle: {NEITHER}\n")
 
     def test_which_number_is_not_finite(self):
-        text = LISTING.format(1, 2, *["0" * 16] * 2).replace("solved 22", "solved 106")
+        text = LISTING.format(1, 2, *["0" * 16] * 2).replace("-3 22", "-3 106")
         of_106 = "tailfiddle: 106: the velocity's y is NaN or infinite; './tailfiddle why 106' tells more\n"
         self.check_listing(text, 1, "tailfiddle: mean 0 s, worst 0 s\n" + OF_24 + of_106)
 
     def test_a_refused_deck(self):
         self.check_listing("deck 30\n", 1, "tailfiddle: 30: no whole header; './tailfiddle why 30' tells more\n")
         self.assertEqual(self.order, [1, 2])
+
+    def test_how_much_is_read(self):
+        self.prints["check_deck"] = "deck 38\n"
+        self.check_input("check", bytes(40000), 1, "deck 38\n", "tailfiddle: 38: .*\n")
+        self.assertEqual(self.given("check_deck"), bytes(38921))
 
     def test_words_that_can_t_be(self):
         said = "tailfiddle: the program check_deck printed a listing that is not whole\n"
@@ -92,7 +97,7 @@ class Show(Command):
         """Runs show for a deck of which `text` is the listing. The lines that it prints."""
         self.written = {1: "", 2: ""}
         self.prints["check_deck"] = text
-        deck = deck_of(SOLVED, REFUSED, TRANSFER)
+        deck = deck_of(SOLVED, REFUSED, TRANSFER, tag=TAG)
         with mock.patch("front.streams.open_input"), mock.patch("front.check.fetch", return_value=deck):
             self.assertEqual(commands.main(["show", "-", *more]), status, self.written)
         return self.written[1].split("\n")
@@ -105,13 +110,13 @@ class Show(Command):
                 self.assertEqual(self.written[2], "")
 
     def test_no_card_is_solved(self):
-        text = LISTING.format(0, 3, "none", "none").replace("solved 0", "solved 22", 1)
+        text = LISTING.format(0, 3, "none", "none").replace("-3 0", "-3 22", 1)
         *_, totals, last, end = self.show(text, 1)
         self.assertEqual([totals, last, end], ["3 cards: 0 solved, 0 refused, 3 rejected", NEITHER, ""])
         self.assertEqual(self.written[2], "")
 
     def test_problems_alone(self):
-        line = "398600.44179999997 7000 0 0 0 7.5 1 3600 20"
+        line = "25544 -3 398600.44179999997 7000 0 0 0 7.5 1 3600 20"
         for mean, worst, _ in SECONDS:
             self.assertEqual(self.show(LISTING.format(1, 2, mean, worst), 1, "--problems"), [line, line, ""])
             self.assertRegex(self.written[2], "^tailfiddle: 1 transfer left out: .*\n$")

@@ -5,12 +5,17 @@ import tempfile
 import unittest
 from unittest import mock
 
-from front import answers, commands, help, listing, show, streams, words
-from front.tests.test_words import PROBLEM, REFUSED, SOLVED, TRANSFER, deck_of, refused_with
+from front import answers, commands, decks, epochs, help, show, streams, words
+from front.decks import Tag, Version
+from front.listing import Line, Listing
+from front.problems import Problems
+from front.tests.test_decks import TAG, TAGS, PROBLEM, REFUSED, SOLVED, TRANSFER, deck_of, refused_with
 
+# Two cards; the rows of object and epoch are left out.
 SHOWN = """\
 card 1: solved; accepted
-  problem  mu        398600.4418 km^3/s^2
+  problem  {tag}
+           mu        398600.4418 km^3/s^2
            position  7000 0 0 km
            velocity  0 7.5 1 km/s
            time      3600 s
@@ -20,7 +25,8 @@ card 1: solved; accepted
            velocity  4 5 6 km/s
 
 card 2: refused; rejected with 23: a spare is not 0, or a way neither 0 nor 1
-  problem  mu        398600.4418 km^3/s^2
+  problem  {tag}
+           mu        398600.4418 km^3/s^2
            position  7000 0 0 km
            velocity  0 7.5 1 km/s
            time      3600 s
@@ -34,7 +40,8 @@ mean 5e-324 s, worst 0.25 s
 """
 SHOWN_TRANSFER = """\
 card 1: solved transfer; accepted
-  problem  mu        398600.4418 km^3/s^2
+  problem  {tag}
+           mu        398600.4418 km^3/s^2
            start     7000 0 0 km
            goal      0 8000 1000 km
            time      1800 s
@@ -46,6 +53,14 @@ card 1: solved transfer; accepted
 1 card: 1 solved, 0 refused, 0 rejected
 mean 0 s, worst 2.615987810513348e+297 s
 """
+# The rows of object and epoch.
+OF_TAGS = (
+    (None, "absent", "absent"),
+    (TAG, "25544", "-3 s, 1969-12-31T23:59:57Z"),
+    (Tag(0, 0), "0", "0 s, 1970-01-01T00:00:00Z"),
+    (Tag(7, 253402300799), "7", "253402300799 s, 9999-12-31T23:59:59Z"),
+    (Tag(7, 253402300800), "7", "253402300800 s, outside the calendar of the years 1 to 9999"),
+)
 # What 101 to 108 name, in order.
 NAMES = (
     "mu",
@@ -53,9 +68,9 @@ NAMES = (
     "the time or the angle",
 )
 LISTING = b"""\
-card 1 solved 0
-card 2 solved 0
-card 3 refused 0
+card 1 solved - - 0
+card 2 solved - - 0
+card 3 refused - - 0
 solved 2 refused 1 rejected 0
 mean 0000000000000000
 worst 0000000000000000
@@ -65,34 +80,41 @@ worst 0000000000000000
 class Show(unittest.TestCase):
     """The text of cards."""
 
+    def check_shown(self, bodies, verdicts, totals, residuals, wanted):
+        """What is shown of a deck of these bodies, in both versions."""
+        for tag, number, epoch in OF_TAGS:
+            cards = decks.read(deck_of(*bodies, tag=tag)).cards
+            said = Listing(None, [Line(None, tag, verdict) for verdict in verdicts], totals, residuals)
+            rows = f"object    {number}\n           epoch     {epoch}"
+            with self.subTest(tag):
+                self.assertEqual(show.shown(cards, said), wanted.format(tag=rows))
+
     def test_two_cards(self):
-        said = listing.Listing(None, [("solved", 0), ("refused", 23)], [1, 0, 1], [1, words.word("0.25")])
-        self.assertEqual(show.shown(words.cards(deck_of(SOLVED, REFUSED)), said), SHOWN)
+        self.check_shown([SOLVED, REFUSED], [0, 23], [1, 0, 1], [1, words.word("0.25")], SHOWN)
 
     def test_a_transfer(self):
-        said = listing.Listing(None, [("solved", 0)], [1, 0, 0], [0, 0x7DB << 52])
-        self.assertEqual(show.shown(words.cards(deck_of(TRANSFER)), said), SHOWN_TRANSFER)
+        self.check_shown([TRANSFER], [0], [1, 0, 0], [0, 0x7DB << 52], SHOWN_TRANSFER)
 
     def test_ways_of_a_transfer(self):
-        (card,) = words.cards(deck_of(TRANSFER))
+        (card,) = decks.read(deck_of(TRANSFER)).cards
         for way, text in ((0, "short"), (1, "long"), (2, "2"), (4294967295, "4294967295")):
             card.way = way
             self.assertEqual(show.transfer_fields(card)[-1], ("way", text))
         self.assertRegex(show.card_text(7, card, 23), r"^card 7: solved transfer; rejected with 23: .*way")
 
     def test_no_cards(self):
-        text = show.shown([], listing.Listing(None, [], [0, 0, 0], []))
+        text = show.shown([], Listing(None, [], [0, 0, 0], []))
         last = "mean and worst: none, no card is accepted as solved\n"
         self.assertEqual(text, "0 cards: 0 solved, 0 refused, 0 rejected\n" + last)
 
     def test_numbers_that_are_none(self):
-        (card,) = words.cards(deck_of(SOLVED))
+        (card,) = decks.read(deck_of(SOLVED)).cards
         card.numbers[1:4] = [words.NAN, words.SIGN | words.INFINITY, words.NAN + 1]
         self.assertIn(("position", "nan -inf 0x7ff8000000000001 km"), show.problem_fields(card))
 
     def test_a_refusal_and_other_numbers(self):
         self.assertTrue(show.refusal_text(8).startswith("8: beyond"))
-        for number in words.REFUSALS:
+        for number in decks.REFUSALS:
             self.assertNotIn("docs/REFUSALS.md", show.refusal_text(number))
         for number in (0, 4, 12, 13, 22, 40, 50, 60, 99, 100, 109, 4294967295):
             self.assertEqual(show.refusal_text(number), f"{number}: no refusal of a prediction")
@@ -103,23 +125,34 @@ class Show(unittest.TestCase):
             self.assertEqual(show.refusal_text(number), f"{number}: {name} is NaN or infinite")
 
     def test_a_solved_card_with_such_a_number(self):
-        (card,) = words.cards(deck_of(SOLVED))
+        (card,) = decks.read(deck_of(SOLVED)).cards
         title = "card 7: solved; rejected with 108: the time or the angle is NaN or infinite\n"
         self.assertTrue(show.card_text(7, card, 108).startswith(title))
 
     def test_the_listing_of_another_deck(self):
-        said = listing.Listing(None, [("refused", 0)], [0, 1, 0], [])
+        said = Listing(None, [Line("refused", None, 0)], [0, 1, 0], [])
         for card in (SOLVED, TRANSFER):
             with self.assertRaisesRegex(streams.Stop, "not this deck's"):
                 show.cards_of(deck_of(card), said)
 
+    def test_a_listing_with_other_tags(self):
+        for tag in TAGS:
+            for other in TAGS:
+                said = Listing(None, [Line("refused", other, 0)], [0, 1, 0], [])
+                if other == tag:
+                    self.assertEqual(len(show.cards_of(deck_of(REFUSED, tag=tag), said)), 1)
+                    continue
+                with self.subTest((tag, other)), self.assertRaisesRegex(streams.Stop, "not this deck's"):
+                    show.cards_of(deck_of(REFUSED, tag=tag), said)
+
     def test_the_listing_calls_a_transfer_solved(self):
-        said = listing.Listing(None, [("solved", 0), ("refused", 0), ("solved", 22)], [1, 1, 1], [0, 0])
-        cards = show.cards_of(deck_of(TRANSFER, REFUSED, SOLVED), said)
-        self.assertEqual([card.kind for card in cards], ["transfer", "refused", "solved"])
-        said.cards[0] = ("transfer", 0)
+        lines = [Line("solved", TAG, 0), Line("refused", TAG, 0), Line("solved", TAG, 22)]
+        said = Listing(None, lines, [1, 1, 1], [0, 0])
+        deck = deck_of(TRANSFER, REFUSED, SOLVED, tag=TAG)
+        self.assertEqual([card.kind for card in show.cards_of(deck, said)], ["transfer", "refused", "solved"])
+        said.cards[0] = Line("transfer", TAG, 0)
         with self.assertRaisesRegex(streams.Stop, "not this deck's"):
-            show.cards_of(deck_of(TRANSFER, REFUSED, SOLVED), said)
+            show.cards_of(deck, said)
 
 
 class Ran(unittest.TestCase):
@@ -142,18 +175,23 @@ class Ran(unittest.TestCase):
         ):
             return commands.main(list(texts))
 
+    def write_with(self, output, count, version=Version.ONE):
+        """The status of 'write' for so many problems, where its program prints `output`."""
+        given = Problems()
+        given.version, given.records = version, [PROBLEM] * count
+        with mock.patch("front.problems.read", return_value=given):
+            return self.run_with(output, "write", "-", "-")
+
     def test_write(self):
         out = deck_of(SOLVED, refused_with(8))
-        with mock.patch("front.problems.read", return_value=[PROBLEM, PROBLEM]):
-            self.assertEqual(self.run_with(out, "write", "-", "-"), 1)
+        self.assertEqual(self.write_with(out, 2), 1)
         self.assertTrue(self.written.startswith(b"1 " + out))
         self.assertIn(b"tailfiddle: 2 cards written: 1 solved, 1 refused\n", self.written)
         self.assertIn(b"tailfiddle: 1 refused with 8: beyond the far end; './tailfiddle why 8'", self.written)
 
     def test_write_says_each_refusal(self):
-        with mock.patch("front.problems.read", return_value=[PROBLEM] * 4):
-            out = deck_of(*map(refused_with, (106, 8, 101, 106)))
-            self.assertEqual(self.run_with(out, "write", "-", "-"), 1)
+        out = deck_of(*map(refused_with, (106, 8, 101, 106)), tag=TAG)
+        self.assertEqual(self.write_with(out, 4, Version.TWO), 1)
         _, *said = self.written[len(b"1 " + out) :].decode().splitlines()
         wanted = ("1 refused with 8: beyond", "1 refused with 101: mu", "2 refused with 106: the velocity's y")
         for line, begun in zip(said, wanted):
@@ -161,22 +199,29 @@ class Ran(unittest.TestCase):
         self.assertEqual(len(said), 3)
 
     def test_write_all_solved(self):
-        with mock.patch("front.problems.read", return_value=[PROBLEM]):
-            self.assertEqual(self.run_with(deck_of(SOLVED), "write", "-", "-"), 0)
+        self.assertEqual(self.write_with(deck_of(SOLVED), 1), 0)
         self.assertTrue(self.written.endswith(b"tailfiddle: 1 card written: 1 solved, 0 refused\n"))
 
     def test_write_is_refused(self):
-        with mock.patch("front.problems.read", return_value=[PROBLEM] * 257):
-            self.assertEqual(self.run_with(b"deck 40\n", "write", "-", "-"), 1)
+        self.assertEqual(self.write_with(b"deck 40\n", 257), 1)
         self.assertRegex(self.written, rb"^2 tailfiddle: nothing is written: the deck is refused with 40: ")
 
     def test_write_with_a_program_that_fails(self):
         good = deck_of(SOLVED)
         for output in (b"", b"deck", b"deck 4", good[:-1], good + b"x", deck_of()):
-            with self.subTest(output), mock.patch("front.problems.read", return_value=[PROBLEM]):
+            with self.subTest(output):
                 self.written = b""
-                self.assertEqual(self.run_with(output, "write", "-", "-"), 2)
+                self.assertEqual(self.write_with(output, 1), 2)
                 self.assertRegex(self.written, rb"^2 tailfiddle: the program write_deck wrote .*\n$")
+
+    def test_write_with_a_program_that_writes_the_other_version(self):
+        for count in (0, 1):
+            for version, tag, said in ((Version.ONE, TAG, "2, not 1"), (Version.TWO, None, "1, not 2")):
+                with self.subTest((count, said)):
+                    self.written = b""
+                    self.assertEqual(self.write_with(deck_of(*[SOLVED] * count, tag=tag), count, version), 2)
+                    line = f"2 tailfiddle: the program write_deck wrote version {said}\n"
+                    self.assertEqual(self.written, line.encode())
 
     def test_why(self):
         for number, name in enumerate(NAMES, 101):
@@ -223,13 +268,30 @@ class Ran(unittest.TestCase):
         self.assertLessEqual(max(map(len, help.TEXT.split("\n"))), 100)
 
     def test_help_says_seconds(self):
-        for first, said in (
+        self.check_help(
             ("check", "the residuals, in seconds, of the cards that are accepted as solved"),
             ("check", "mean and worst in decimals of seconds"),
             ("show", "mean and worst in seconds"),
-        ):
-            (part,) = [part for part in help.TEXT.split("\n\n") if part.startswith(f"{first} prints")]
+        )
+
+    def check_help(self, *lines):
+        """Each text stands in the part of the help that begins with the command and what it does."""
+        for first, said in lines:
+            begun = tuple(f"{first} {does}" for does in ("prints", "takes", "is"))
+            (part,) = [part for part in help.TEXT.split("\n\n") if part.startswith(begun)]
             self.assertIn(said, " ".join(part.split()))
+
+    def test_help_says_objects_and_epochs(self):
+        self.check_help(
+            ("write", "in front of them OBJECT EPOCH, in every line or in none"),
+            ("write", "A deck without cards is of version 2"),
+            ("OBJECT", "0 to 4294967295"),
+            ("OBJECT", "-9223372036854775808 to 9223372036854775807"),
+            ("OBJECT", f"in this form: {epochs.SAMPLE}, of a year from 0001 to 9999"),
+            ("OBJECT", f"so many seconds from {epochs.utc(0)} on, here {epochs.read(epochs.SAMPLE)}"),
+            ("check", "its object and its epoch, or '- -' where they are absent"),
+            ("show", "its object, and its epoch with the UTC beside it, or that they are absent"),
+        )
 
     def test_a_fault_is_no_refusal(self):
         with mock.patch("front.why.run", side_effect=RuntimeError("odd")):
@@ -242,7 +304,6 @@ class Ran(unittest.TestCase):
                 self.written = b""
                 self.assertEqual(self.run_with(b"deck 30\n", "show", "-", *more), 1)
                 self.assertRegex(self.written, rb"^2 tailfiddle: the deck is refused with 30: no whole header; .*\n$")
-
 
     def show_problems(self, *bodies):
         """The status of 'show --problems' for a deck of which LISTING is the listing."""

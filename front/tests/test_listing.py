@@ -3,35 +3,65 @@
 import unittest
 
 from front import listing, words
+from front.decks import Tag
 
+# A deck of version 1, and the same in version 2.
 WHOLE = b"""\
-card 1 solved 0
-card 2 refused 24
-card 3 solved 22
+card 1 solved - - 0
+card 2 refused - - 24
+card 3 solved - - 22
 solved 1 refused 0 rejected 2
 mean 0000000000000000
 worst 3da2e00000000000
 """
+TAGGED = WHOLE.replace(b"- -", b"25544 -3").replace(b"25544 -3", b"4294967295 -9223372036854775808", 1)
+TAGS = [Tag(4294967295, -9223372036854775808), Tag(25544, -3), Tag(25544, -3)]
 
 
 class Reading(unittest.TestCase):
     """A whole listing is read, and nothing else is."""
 
     def test_a_listing(self):
-        said = listing.read(WHOLE)
-        self.assertIsNone(said.refusal)
-        self.assertEqual(said.cards, [("solved", 0), ("refused", 24), ("solved", 22)])
-        self.assertEqual(said.totals, [1, 0, 2])
-        self.assertEqual(said.residuals, [0, 0x3DA2E00000000000])
-        self.assertEqual(said.numbers(), [24, 22])
-        self.assertEqual(said.status(), 1)
+        for text, tags in ((WHOLE, [None] * 3), (TAGGED, TAGS)):
+            said = listing.read(text)
+            self.assertIsNone(said.refusal)
+            self.assertEqual([card.tag for card in said.cards], tags)
+            self.assertEqual([card.word for card in said.cards], ["solved", "refused", "solved"])
+            self.assertEqual([card.verdict for card in said.cards], [0, 24, 22])
+            self.assertEqual(said.totals, [1, 0, 2])
+            self.assertEqual(said.residuals, [0, 0x3DA2E00000000000])
+            self.assertEqual(said.numbers(), [24, 22])
+            self.assertEqual(said.status(), 1)
+
+    def test_tags(self):
+        for text, tag in (
+            (b"0 0", (0, 0)),
+            (b"1 -1", (1, -1)),
+            (b"4294967295 9223372036854775807", (4294967295, (1 << 63) - 1)),
+        ):
+            said = listing.read(WHOLE.replace(b"- -", text))
+            self.assertEqual([card.tag for card in said.cards], [tag] * 3)
+
+    def test_tags_that_can_t_be(self):
+        texts = ["0 9223372036854775808", "0 -9223372036854775809", "-1 0", "4294967296 0", "0 -0", "00 0", "0 00"]
+        texts += ["0 -01", "01 0", "+1 0", "0 +1", "- 0", "0 -", "-- -", "- --", "x 0", "0 x", "0 1.0", "0x1 0"]
+        for text in (*texts, "none none", "0", "-", "", "0 0 0", "- - -", " 0", "0 "):
+            with self.subTest(text), self.assertRaises(ValueError):
+                listing.read(WHOLE.replace(b"- -", text.encode()))
+
+    def test_all_cards_have_tags_or_none_has(self):
+        for place in range(3):
+            lines = WHOLE.splitlines(True)
+            lines[place] = lines[place].replace(b"- -", b"0 0")
+            with self.subTest(place), self.assertRaises(ValueError):
+                listing.read(b"".join(lines))
 
     def test_verdicts_of_three_digits(self):
-        said = listing.read(WHOLE.replace(b"solved 22", b"solved 108"))
-        self.assertEqual((said.cards[2], said.numbers(), said.status()), (("solved", 108), [24, 108], 1))
+        said = listing.read(WHOLE.replace(b"solved - - 22", b"solved - - 108"))
+        self.assertEqual((said.cards[2], said.numbers(), said.status()), (("solved", None, 108), [24, 108], 1))
 
     def test_all_accepted(self):
-        said = listing.read(b"card 1 refused 0\nsolved 0 refused 1 rejected 0\nmean none\nworst none\n")
+        said = listing.read(b"card 1 refused 7 8 0\nsolved 0 refused 1 rejected 0\nmean none\nworst none\n")
         self.assertEqual((said.numbers(), said.status(), said.residuals), ([], 0, []))
 
     def test_no_cards(self):
@@ -43,15 +73,16 @@ class Reading(unittest.TestCase):
         self.assertEqual((said.refusal, said.numbers(), said.status(), said.residuals), (31, [31], 1, []))
 
     def test_each_cut_is_refused(self):
-        for length in range(len(WHOLE)):
-            with self.subTest(length), self.assertRaises(ValueError):
-                listing.read(WHOLE[:length])
+        for text in (WHOLE, TAGGED):
+            for length in range(len(text)):
+                with self.subTest(length), self.assertRaises(ValueError):
+                    listing.read(text[:length])
         for length in range(len(b"deck 31\n")):
             with self.subTest(length), self.assertRaises(ValueError):
                 listing.read(b"deck 31\n"[:length])
 
     def test_what_follows_is_refused(self):
-        for more in (b"x", b"\n", b"card 1 solved 0\n"):
+        for more in (b"x", b"\n", b"card 1 solved - - 0\n"):
             with self.subTest(more), self.assertRaises(ValueError):
                 listing.read(WHOLE + more)
             with self.subTest(more), self.assertRaises(ValueError):
@@ -68,8 +99,14 @@ class Reading(unittest.TestCase):
     def test_other_words_are_refused(self):
         for old, new in (
             (b"card 2", b"card 4"),
-            (b"refused 24", b"unknown 24"),
-            (b"solved 22", b"solved -2"),
+            (b"refused -", b"unknown -"),
+            (b"refused -", b"transfer -"),
+            (b"- 22", b"- -2"),
+            (b"- 22", b"- 022"),
+            (b"- 22", b"- 10000000000"),
+            (b" - - 22", b" 22"),
+            (b"card 2", b"card 02"),
+            (b"rejected 2", b"rejected 02"),
             (b"rejected 2", b"rejected"),
             (b"mean 0", b"mean 00"),
             (b"worst 3", b"best 3"),

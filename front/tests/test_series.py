@@ -3,7 +3,7 @@
 import struct
 import unittest
 
-from front import page, words
+from front import decks, page, words
 from front.tests.stand import Stand
 
 # At 1, 4 and -4, and at zero or a subnormal number.
@@ -126,7 +126,7 @@ class Refusal(unittest.TestCase):
         self.assertEqual(page.entry("60")[0], "60: z is outside the range of the series")
 
     def test_no_card_has_it(self):
-        self.assertNotIn(60, words.REFUSALS)
+        self.assertNotIn(60, decks.REFUSALS)
 
 
 if __name__ == "__main__":

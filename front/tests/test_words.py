@@ -1,4 +1,4 @@
-"""Numbers, words, records and decks."""
+"""Numbers, words and records."""
 
 import struct
 import unittest
@@ -75,6 +75,20 @@ class Numbers(unittest.TestCase):
         for text in ("", "-1", "+1", "1.0", "4294967296", "99999999999", "1e3", "٣", "²", "0x10", "9" * 9999):
             with self.subTest(text[:20]), self.assertRaisesRegex(words.Wrong, "whole number from 0 to 4294967295"):
                 words.whole(text)
+        with self.assertRaisesRegex(words.Wrong, "^'x' is not a whole number .*, as LIMIT must be$"):
+            words.whole("x")
+        with self.assertRaisesRegex(words.Wrong, "^'x' is not a whole number .*, as OBJECT must be$"):
+            words.whole("x", "OBJECT")
+
+    def test_whole_numbers_below_zero(self):
+        for text, value in (("-1", -1), ("-0", 0), ("0", 0), ("-007", -7), ("-" + "0" * 9999 + "9", -9), ("5", 5)):
+            with self.subTest(text[:20]):
+                self.assertEqual(words.whole_within(text, -9, 5), value)
+        no_numbers = ("", "-", "--1", "+1", "-+1", "1-", " -1", "-1 ", "-1.0", "−1", "-٣", "-1_0", "-0x1")
+        for text in ("-10", "6", "-" + "9" * 9999, "9" * 9999, *no_numbers):
+            with self.subTest(text[:20]):
+                self.assertIsNone(words.whole_within(text, -9, 5))
+        self.assertIsNone(words.whole_within("-0", 0, 5))
 
     def test_ways(self):
         self.assertEqual([words.way("short"), words.way("long")], [0, 1])
@@ -111,7 +125,7 @@ class Numbers(unittest.TestCase):
 
 
 class Records(unittest.TestCase):
-    """Records of numbers, and the fields of a deck."""
+    """Records of numbers."""
 
     def test_a_problem_has_68_bytes(self):
         record = words.problem("1 2 3 4 5 6 7 8 20".split())
@@ -144,71 +158,6 @@ class Records(unittest.TestCase):
     def test_the_first_that_is_wrong_is_named(self):
         with self.assertRaisesRegex(words.Wrong, "'x' is not a number"):
             words.packed(["1", "x", "y"])
-
-    def test_the_sizes_of_the_rules(self):
-        self.assertEqual(words.SIZES, {"solved": 128, "refused": 80, "transfer": 104})
-        self.assertEqual(words.MOST_DECK, 35848)
-
-
-def deck_of(*bodies):
-    """A deck of finished bodies: kind and bytes of each."""
-    offset = 8 + 12 * len(bodies)
-    entries = b""
-    for kind, body in bodies:
-        entries += struct.pack("<III", kind, offset, len(body))
-        offset += len(body)
-    return struct.pack("<II", 1, len(bodies)) + entries + b"".join(body for _, body in bodies)
-
-
-PROBLEM = struct.pack("<8dI", 398600.4418, 7000, 0, 0, 0, 7.5, 1, 3600, 20)
-SOLVED = (1, PROBLEM + struct.pack("<I7d", 0, 0.5, 0.1, 2, 3, 4, 5, 6))
-REFUSED = (2, PROBLEM + struct.pack("<III", 9, 8, 7))
-TRANSFER = (3, struct.pack("<8dII4d", 398600.4418, 7000, 0, 0, 0, 8000, 1000, 1800, 100, 1, 3.5, 1.25, 7.5, 1))
-
-
-def refused_with(number):
-    """A refused card with that number."""
-    return 2, PROBLEM + struct.pack("<III", 0, number, 0)
-
-
-class Decks(unittest.TestCase):
-    """The fields are read where the rules put them."""
-
-    def test_a_solved_card(self):
-        (card,) = words.cards(deck_of(SOLVED))
-        self.assertEqual((card.kind, card.limit, card.spares), ("solved", 20, [0]))
-        self.assertEqual([words.value_of(word) for word in card.numbers], [398600.4418, 7000, 0, 0, 0, 7.5, 1, 3600])
-        self.assertEqual([words.value_of(word) for word in card.answer], [0.5, 0.1, 2, 3, 4, 5, 6])
-
-    def test_a_refused_card(self):
-        _, card = words.cards(deck_of(SOLVED, REFUSED))
-        self.assertEqual((card.kind, card.refusal, card.spares, card.answer), ("refused", 8, [9, 7], ()))
-
-    def test_the_number_of_a_refused_card(self):
-        for number in (0, 1, 14, 101, 108, 4294967295):
-            (card,) = words.cards(deck_of(refused_with(number)))
-            self.assertEqual((card.refusal, card.spares), (number, [0, 0]))
-
-    def test_a_transfer(self):
-        _, card, last = words.cards(deck_of(SOLVED, TRANSFER, REFUSED))
-        self.assertEqual((card.kind, card.limit, card.way, card.spares, card.refusal), ("transfer", 100, 1, [], 0))
-        numbers = [words.value_of(word) for word in card.numbers]
-        self.assertEqual(numbers, [398600.4418, 7000, 0, 0, 0, 8000, 1000, 1800])
-        self.assertEqual([words.value_of(word) for word in card.answer], [3.5, 1.25, 7.5, 1])
-        self.assertEqual((last.kind, last.refusal, last.way), ("refused", 8, None))
-
-    def test_no_cards(self):
-        self.assertEqual(words.cards(deck_of()), [])
-
-    def test_what_is_no_whole_deck(self):
-        good = deck_of(SOLVED, REFUSED)
-        bad = [b"", good[:7], good[:20], good[:-1], good + b"x", b"\2" + good[1:], deck_of((4, SOLVED[1]))]
-        bad += [deck_of((2, REFUSED[1][:79])), struct.pack("<II", 1, 1 << 31)]
-        bad += [deck_of((3, SOLVED[1])), deck_of((1, TRANSFER[1])), deck_of((0, TRANSFER[1]))]
-        bad += [deck_of((3, TRANSFER[1][:103])), deck_of((3, TRANSFER[1] + bytes(4)))]
-        for deck in bad:
-            with self.subTest(deck[:30]), self.assertRaises(ValueError):
-                words.cards(deck)
 
 
 if __name__ == "__main__":

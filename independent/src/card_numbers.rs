@@ -18,8 +18,9 @@ pub fn kinds(judged: &[Judged]) -> Vec<String> {
 
 /// The kind of a deck that has a card from before. A deck that is refused has none.
 pub fn with_old(deck: &[u8]) -> Option<String> {
-    let cards = deck::cards(deck).unwrap_or_default();
-    let old = cards.iter().filter_map(number).any(is_old);
+    let cards = deck::read(deck).ok()?.cards;
+    let mut numbers = cards.iter().filter_map(|sent| number(&sent.card));
+    let old = numbers.any(is_old);
     old.then(|| "with old card".to_string())
 }
 

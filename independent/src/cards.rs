@@ -1,4 +1,4 @@
-//! Cards as they are sent.
+//! Cards as they are sent, without object and epoch: what the verdict reads.
 
 use crate::answer::Answer;
 use crate::bytes::{u32_at, u64_at};
@@ -8,6 +8,7 @@ use crate::motion::orbit_of;
 use crate::times::Times;
 use crate::transfer;
 use crate::universal::unrefused;
+use crate::versions::Version;
 
 pub type State = [u64; 6];
 pub type Velocity = [u64; 3];
@@ -34,12 +35,26 @@ impl Kind {
         }
     }
 
-    /// The bytes of a body.
-    pub fn length(self) -> usize {
+    /// The bytes of a body without object and epoch: the whole of it in version 1.
+    fn bare_length(self) -> usize {
         match self {
             Kind::Solved => 128,
             Kind::Refused => 80,
             Kind::Transfer => 104,
+        }
+    }
+
+    /// The bytes of a body.
+    pub fn length(self, version: Version) -> usize {
+        self.bare_length() + version.tag_length()
+    }
+
+    /// Where object and epoch stand in a body that has them: behind the problem and its spare, or at a
+    /// transfer's end.
+    pub fn tag_at(self) -> usize {
+        match self {
+            Kind::Solved | Kind::Refused => PROBLEM + 4,
+            Kind::Transfer => self.bare_length(),
         }
     }
 
@@ -161,7 +176,7 @@ impl Card {
         }
     }
 
-    /// The card with this body, which has its kind's length.
+    /// The card with this body, which has neither object nor epoch.
     pub fn read(kind: Kind, body: &[u8]) -> Card {
         let (behind, answer) = (u32_at(body, PROBLEM), PROBLEM + 4);
         let claim = match kind {
@@ -195,6 +210,7 @@ impl Card {
         }
     }
 
+    /// The body, without object and epoch.
     pub fn body(&self) -> Vec<u8> {
         let (behind, answer) = match self.claim {
             Claim::Solved { spare, x, state } => (spare, u64s(&[&[x], &state[..]].concat())),

@@ -11,6 +11,7 @@ use crate::kepler::Input;
 use crate::refused_cards::{spares, with_spares};
 use crate::solved_cards;
 use crate::spoilt::NOT_FINITE;
+use crate::tagged_decks;
 use crate::transfer_decks;
 use crate::writer::deck;
 
@@ -25,6 +26,8 @@ pub fn fixed() -> Vec<Named> {
     list.extend(damaged());
     list.extend(long(chance));
     list.extend(transfer_decks::to_copy());
+    let twos = tagged_decks::to_copy(&list);
+    list.extend(twos);
     list
 }
 

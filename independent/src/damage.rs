@@ -1,13 +1,35 @@
 //! Decks that are damaged: cut, lengthened, with a byte or a field altered, or laid out wrongly.
 
 use crate::bytes::u32_at;
+use crate::cards::Kind;
 use crate::chance::Chance;
 use crate::deck::{ENTRIES, ENTRY};
+use crate::versions::{Version, TAG};
 
 /// Where the kind, the offset and the length stand in an entry.
 const KIND: usize = 0;
 const OFFSET: usize = 4;
 const LENGTH: usize = 8;
+
+/// Versions that there are and others: the largest, and those that differ from 1 and 2 in a higher byte alone.
+const VERSIONS: [u32; 16] = [
+    0,
+    1,
+    2,
+    3,
+    4,
+    255,
+    256,
+    257,
+    258,
+    (1 << 16) + 1,
+    (1 << 24) + 1,
+    (1 << 24) + 2,
+    (1 << 31) + 1,
+    (1 << 31) + 2,
+    u32::MAX - 1,
+    u32::MAX,
+];
 
 type Damage = fn(&mut Vec<u8>);
 
@@ -34,6 +56,18 @@ const DAMAGES: [Damage; 18] = [
     |deck| deck.push(0),
 ];
 
+/// Damages to such a deck of version 2: another version, and what would be right in version 1.
+const VERSION_DAMAGES: [Damage; 8] = [
+    |deck| put(deck, 0, 0),
+    |deck| put(deck, 0, 1),
+    |deck| put(deck, 0, 3),
+    |deck| put(deck, at(0, LENGTH), 128),
+    |deck| put(deck, at(1, LENGTH), 80),
+    |deck| put(deck, at(1, OFFSET), 172),
+    |deck| put(deck, at(2, OFFSET), 252),
+    |deck| deck.truncate(deck.len().saturating_sub(TAG)),
+];
+
 /// Every length shorter than the deck's.
 pub fn cut(deck: &[u8]) -> Vec<Vec<u8>> {
     (0..deck.len())
@@ -43,9 +77,21 @@ pub fn cut(deck: &[u8]) -> Vec<Vec<u8>> {
 
 /// Each byte altered in two ways. The first of them makes each kind of card the other one.
 pub fn each_byte(deck: &[u8]) -> Vec<Vec<u8>> {
+    each_byte_by(deck, [3, 0x80])
+}
+
+/// Each byte altered in these bits.
+pub fn each_byte_by<const N: usize>(deck: &[u8], bits: [u8; N]) -> Vec<Vec<u8>> {
     (0..deck.len())
-        .flat_map(|at| [3, 0x80].map(|bits| changed(deck, |deck| deck[at] ^= bits)))
+        .flat_map(|at| bits.map(|bits| changed(deck, |deck| deck[at] ^= bits)))
         .collect()
+}
+
+/// The deck with each of many versions.
+pub fn versions(deck: &[u8]) -> Vec<Vec<u8>> {
+    VERSIONS
+        .map(|version| changed(deck, |deck| put(deck, 0, version)))
+        .to_vec()
 }
 
 /// Each number before the bodies made each of some others.
@@ -72,12 +118,13 @@ fn others(value: u32) -> Vec<u32> {
 }
 
 /// The entry of each card in turn with each of some kinds and lengths, right and wrong together.
-pub fn kinds_and_lengths(deck: &[u8]) -> Vec<Vec<u8>> {
-    let kinds = [0, 1, 2, 3, 4, 0x0100_0003];
-    let lengths = [80, 103, 104, 105, 128];
-    let pairs = kinds.map(|kind| lengths.map(|length| (kind, length)));
+pub fn kinds_and_lengths(deck: &[u8], kinds: &[u32], lengths: &[u32]) -> Vec<Vec<u8>> {
+    let pairs = kinds
+        .iter()
+        .flat_map(|kind| lengths.iter().map(move |length| (*kind, *length)));
+    let pairs: Vec<(u32, u32)> = pairs.collect();
     (0..u32_at(deck, 4) as usize)
-        .flat_map(|card| pairs.concat().into_iter().map(move |pair| (card, pair)))
+        .flat_map(|card| pairs.iter().map(move |pair| (card, *pair)))
         .map(|(card, (kind, length))| {
             changed(deck, |deck| {
                 put(deck, at(card, KIND), kind);
@@ -91,6 +138,18 @@ pub fn kinds_and_lengths(deck: &[u8]) -> Vec<Vec<u8>> {
 /// Each damage alone.
 pub fn each(deck: &[u8]) -> Vec<Vec<u8>> {
     DAMAGES.map(|damage| changed(deck, damage)).to_vec()
+}
+
+/// Each damage to a deck of version 2 alone, and then one of the others.
+pub fn each_of_version(deck: &[u8]) -> Vec<Vec<u8>> {
+    let alone = |first: Damage| changed(deck, first);
+    let then = |first: Damage| DAMAGES.map(|second| changed(&alone(first), second));
+    let pairs = VERSION_DAMAGES.into_iter().flat_map(then);
+    VERSION_DAMAGES
+        .map(alone)
+        .into_iter()
+        .chain(pairs)
+        .collect()
 }
 
 /// Two damages at once, in either order.
@@ -111,7 +170,7 @@ pub fn gaps(deck: &[u8]) -> Vec<Vec<u8>> {
     let moved = |card: usize, size: i32| {
         let told = changed(deck, |deck| {
             shift_bytes(deck, card, size);
-            (card..count).for_each(|card| shift_offset(deck, card, size));
+            (card..count).for_each(|card| shift_field(deck, at(card, OFFSET), size));
         });
         let untold = changed(deck, |deck| shift_bytes(deck, card, size));
         [told, untold]
@@ -122,20 +181,57 @@ pub fn gaps(deck: &[u8]) -> Vec<Vec<u8>> {
         .collect()
 }
 
+/// Each card in turn as the other version has it: without its object and epoch, or with zeros in their
+/// place. The bytes, the length and the offsets behind tell of it, or do not.
+pub fn in_other_version(deck: &[u8], version: Version) -> Vec<Vec<u8>> {
+    let count = u32_at(deck, 4) as usize;
+    let size = match version {
+        Version::One => TAG as i32,
+        Version::Two => -(TAG as i32),
+    };
+    let moved = |card: usize, told: u32| {
+        changed(deck, |deck| {
+            if told & 1 != 0 {
+                shift_tag(deck, card, size);
+            }
+            if told & 2 != 0 {
+                shift_field(deck, at(card, LENGTH), size);
+            }
+            if told & 4 != 0 {
+                (card + 1..count).for_each(|card| shift_field(deck, at(card, OFFSET), size));
+            }
+        })
+    };
+    (0..count)
+        .flat_map(|card| (1..8).map(move |told| (card, told)))
+        .map(|(card, told)| moved(card, told))
+        .collect()
+}
+
+fn shift_tag(deck: &mut Vec<u8>, card: usize, size: i32) {
+    let kind = Kind::of(u32_at(deck, at(card, KIND))).expect("the deck is not damaged");
+    let body = u32_at(deck, at(card, OFFSET)) as usize;
+    shift_at(deck, body + kind.tag_at(), size);
+}
+
 /// Puts `size` bytes before a card's body, or, where it is negative, takes that many away.
 fn shift_bytes(deck: &mut Vec<u8>, card: usize, size: i32) {
     let body = u32_at(deck, at(card, OFFSET)) as usize;
+    shift_at(deck, body, size);
+}
+
+fn shift_at(deck: &mut Vec<u8>, at: usize, size: i32) {
     let count = size.unsigned_abs() as usize;
     if size < 0 {
-        deck.drain(body..body + count);
+        deck.drain(at..at + count);
     } else {
-        deck.splice(body..body, vec![0; count]);
+        deck.splice(at..at, vec![0; count]);
     }
 }
 
-fn shift_offset(deck: &mut [u8], card: usize, size: i32) {
-    let offset = u32_at(deck, at(card, OFFSET));
-    put(deck, at(card, OFFSET), offset.wrapping_add_signed(size));
+fn shift_field(deck: &mut [u8], at: usize, size: i32) {
+    let value = u32_at(deck, at);
+    put(deck, at, value.wrapping_add_signed(size));
 }
 
 /// Each two entries changed places, and their offsets alone.

@@ -9,10 +9,10 @@ use crate::kepler;
 use crate::search::{Search, NEAR};
 use crate::times::Times;
 use crate::transfer;
+use crate::versions::{Deck, Sent, Tag, Version};
 
 /// As much as a program reads of a deck: one byte more than the largest one has.
-const READ: usize = 35_849;
-pub const VERSION: u32 = 1;
+const READ: usize = 38_921;
 pub const MOST_CARDS: usize = 256;
 
 /// The number of a refused card from before, when 101 to 108 were one refusal.
@@ -42,19 +42,27 @@ struct Tally {
 
 /// What the check program prints for this input.
 pub fn listing(input: &[u8]) -> String {
-    let cards = match cards(input) {
-        Ok(cards) => cards,
+    let cards = match read(input) {
+        Ok(deck) => deck.cards,
         Err(number) => return refusal(number),
     };
     let mut tally = Tally::default();
     let mut lines = String::new();
-    for (place, card) in (1..).zip(&cards) {
+    for (place, Sent { card, tag }) in (1..).zip(&cards) {
         let verdict = verdict(card);
-        let (kind, number) = (card.kind().word(), verdict.number());
-        lines += &format!("card {place} {kind} {number}\n");
+        let (kind, tag, number) = (card.kind().word(), shown(*tag), verdict.number());
+        lines += &format!("card {place} {kind} {tag} {number}\n");
         tally.add(&verdict);
     }
     lines + &tally.lines()
+}
+
+/// Object and epoch in a line.
+fn shown(tag: Option<Tag>) -> String {
+    match tag {
+        Some(Tag { object, epoch }) => format!("{object} {epoch}"),
+        None => "- -".to_string(),
+    }
 }
 
 /// What each program that reads or writes a deck says where it is refused.
@@ -62,12 +70,12 @@ pub fn refusal(number: u32) -> String {
     format!("deck {number}\n")
 }
 
-/// The cards of the deck that a program reads, or why it is refused: 30 to 38. No list of verdicts
-/// is too short here, so there is no 39.
-pub fn cards(input: &[u8]) -> Result<Vec<Card>, u32> {
+/// The deck that a program reads, or why it is refused: 30 to 38. No list of verdicts is too short
+/// here, so there is no 39.
+pub fn read(input: &[u8]) -> Result<Deck, u32> {
     let deck = &input[..input.len().min(READ)];
     refuse(30, deck.len() < ENTRIES)?;
-    refuse(31, u32_at(deck, 0) != VERSION)?;
+    let version = Version::of(u32_at(deck, 0)).ok_or(31u32)?;
     let count = u32_at(deck, 4) as usize;
     refuse(32, count > MOST_CARDS)?;
     let bodies = ENTRIES + ENTRY * count;
@@ -75,19 +83,24 @@ pub fn cards(input: &[u8]) -> Result<Vec<Card>, u32> {
     let mut cards = Vec::new();
     let mut end = bodies;
     for entry in deck[ENTRIES..bodies].chunks_exact(ENTRY) {
-        let (kind, body) = body_at(deck, entry, end)?;
+        let (kind, body) = body_at(version, deck, entry, end)?;
         end += body.len();
-        cards.push(Card::read(kind, body));
+        cards.push(Sent::read(version, kind, body));
     }
     refuse(38, end < deck.len())?;
-    Ok(cards)
+    Ok(Deck { version, cards })
 }
 
 /// The kind and the body of one entry. The body must begin at `end`, where the last one ended.
-fn body_at<'a>(deck: &'a [u8], entry: &[u8], end: usize) -> Result<(Kind, &'a [u8]), u32> {
+fn body_at<'a>(
+    version: Version,
+    deck: &'a [u8],
+    entry: &[u8],
+    end: usize,
+) -> Result<(Kind, &'a [u8]), u32> {
     let kind = Kind::of(u32_at(entry, 0)).ok_or(34u32)?;
     let (offset, length) = (u32_at(entry, 4) as usize, u32_at(entry, 8) as usize);
-    refuse(35, length != kind.length())?;
+    refuse(35, length != kind.length(version))?;
     refuse(36, offset != end)?;
     let body = deck.get(end..end + length).ok_or(37u32)?;
     Ok((kind, body))

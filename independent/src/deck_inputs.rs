@@ -13,10 +13,13 @@ use crate::motion::PLAIN;
 use crate::refused_cards as refused;
 use crate::solved_cards::{self as solved, Sort};
 use crate::spoilt;
+use crate::tagged_decks;
+use crate::tags;
 use crate::ties;
 use crate::transfer_cards;
 use crate::transfer_decks;
 use crate::unit_cards;
+use crate::versions::Version;
 use crate::writer::deck;
 
 /// A sort of cards, how many rounds of it the gate's decks have, and how many cards at most stand in
@@ -58,10 +61,12 @@ pub fn fixed() -> Vec<Named> {
     list.extend(named("rounded-down", rounded_down(chance)));
     list.extend(damaged());
     list.extend(long(chance));
-    list.extend((0..600).map(|_| mixture(chance, |chance| few(&SORTS, chance))));
-    list.extend(named("longest-listing", [longest_listing(chance)]));
+    list.extend((0..600).map(|_| mixture(Version::One, chance, |chance| few(&SORTS, chance))));
+    list.extend(named("longest-listing", [deck(&longest_cards(chance))]));
     list.extend(transfer_decks::fixed());
     list.extend(unit_cards::decks());
+    let twos = tagged_decks::fixed(&list);
+    list.extend(twos);
     list
 }
 
@@ -75,25 +80,34 @@ pub fn of_sorts(sorts: &[SortRow], chance: &mut Chance) -> Vec<Named> {
     list
 }
 
-/// One deck of some kind, with cards of each kind. Most of them are not damaged. In some there are cards
-/// with units from all over binary64, and in fewer no others.
+/// One deck of some kind, of either version.
 pub fn mixed(chance: &mut Chance) -> Named {
+    let version = chance.one_of(&[Version::One, Version::Two, Version::Two]);
+    mixed_of(version, chance)
+}
+
+/// One deck of a version, with cards of each kind. Most of them are not damaged. In some there are cards
+/// with units from all over binary64, and in fewer no others.
+pub fn mixed_of(version: Version, chance: &mut Chance) -> Named {
     let units = chance.one_of(&[0, 0, 0, 0, 1, 1, 4, 12]);
-    mixture(chance, |chance| match chance.below(12) {
+    mixture(version, chance, |chance| match chance.below(12) {
         sort if sort < units => few(&unit_cards::SORTS, chance),
         0..=7 => few(&SORTS, chance),
         _ => few(&transfer_cards::SORTS, chance),
     })
 }
 
-fn mixture(chance: &mut Chance, few: impl Fn(&mut Chance) -> Vec<Card>) -> Named {
+fn mixture(version: Version, chance: &mut Chance, few: impl Fn(&mut Chance) -> Vec<Card>) -> Named {
     let most = chance.one_of(&[1, 4, 16, 16, 64, 256]);
     let count = chance.below(most + 1) as usize;
     let mut cards = Vec::new();
     while cards.len() < count {
         cards.extend(few(chance));
     }
-    let mut bytes = deck(&cards[..count]);
+    let mut bytes = match version {
+        Version::One => deck(&cards[..count]),
+        Version::Two => tags::with_tags(&cards[..count], chance),
+    };
     if chance.below(4) == 0 {
         bytes = damage::by_chance(bytes, chance);
     }
@@ -162,13 +176,23 @@ fn of_kepler(chance: &mut Chance) -> Vec<Named> {
 }
 
 /// The cards, in their order, in decks of 1 to `most`.
-pub fn dealt(mut cards: &[Card], most: u64, chance: &mut Chance) -> Vec<Vec<u8>> {
+pub fn dealt(cards: &[Card], most: u64, chance: &mut Chance) -> Vec<Vec<u8>> {
+    dealt_by(cards, most, chance, deck)
+}
+
+/// Things, in their order, in decks of 1 to `most`, which are made of them.
+pub fn dealt_by<T>(
+    mut things: &[T],
+    most: u64,
+    chance: &mut Chance,
+    deck: impl Fn(&[T]) -> Vec<u8>,
+) -> Vec<Vec<u8>> {
     let mut decks = Vec::new();
-    while !cards.is_empty() {
-        let count = (1 + chance.below(most) as usize).min(cards.len());
-        let (front, rest) = cards.split_at(count);
+    while !things.is_empty() {
+        let count = (1 + chance.below(most) as usize).min(things.len());
+        let (front, rest) = things.split_at(count);
         decks.push(deck(front));
-        cards = rest;
+        things = rest;
     }
     decks
 }
@@ -206,14 +230,15 @@ fn damaged() -> Vec<Named> {
     .collect()
 }
 
-/// No deck's listing is longer: a card that is accepted, and others whose verdicts have three digits.
-fn longest_listing(chance: &mut Chance) -> Vec<u8> {
+/// No deck's listing is longer, in version 1: a card that is accepted, and others whose verdicts have three
+/// digits.
+pub fn longest_cards(chance: &mut Chance) -> Vec<Card> {
     let good = solved::solved(chance);
     let problem = good.problem;
     let spoilt = spoilt::each(problem.words).into_iter().cycle();
     let rejected = spoilt.map(|words| Card::at(Input { words, ..problem }, 0.0));
-    let cards = [good].into_iter().chain(rejected).take(MOST_CARDS);
-    deck(&cards.collect::<Vec<Card>>())
+    let cards = [good].into_iter().chain(rejected);
+    cards.take(MOST_CARDS).collect()
 }
 
 /// The largest deck, and inputs about and beyond the most that is read.

@@ -2,7 +2,9 @@
 //! many sizes, so each is a file of its own, and its answer another, NAME.answer.
 
 use crate::chance::Chance;
+use crate::earlier::Earlier;
 use crate::suite::row;
+use std::collections::HashMap;
 use std::ffi::OsStr;
 use std::fs;
 use std::io::{self, Write};
@@ -24,8 +26,8 @@ pub struct FileSuite {
     pub mixed: fn(&mut Chance) -> Named,
     /// What the program writes for an input.
     pub answer: fn(&[u8]) -> Vec<u8>,
-    /// Of what kinds an input's answer is.
-    pub kinds: fn(&[u8], &[u8]) -> Vec<String>,
+    /// Of what kinds an input's answer is, beside those that came before.
+    pub kinds: fn(&mut Earlier, &[u8], &[u8]) -> Vec<String>,
 }
 
 impl FileSuite {
@@ -63,9 +65,10 @@ impl FileSuite {
 
     /// For each kind of the answer to each input a line.
     fn write_kinds(&self, out: &mut impl Write, inputs: &str, answers: &str) -> io::Result<()> {
+        let mut earlier = Earlier::default();
         self.each(inputs, |input| {
             let answer = fs::read(answer_to(input, answers))?;
-            let kinds = (self.kinds)(&fs::read(input)?, &answer);
+            let kinds = (self.kinds)(&mut earlier, &fs::read(input)?, &answer);
             kinds.iter().try_for_each(|kind| writeln!(out, "{kind}"))
         })
     }
@@ -92,4 +95,15 @@ fn answer_to(input: &Path, folder: &str) -> PathBuf {
 pub fn named(name: &'static str, inputs: impl IntoIterator<Item = Vec<u8>>) -> Vec<Named> {
     let named = |bytes| Named { name, bytes };
     inputs.into_iter().map(named).collect()
+}
+
+/// Of the inputs that are tried for the same the first, and every so many behind it.
+pub fn by_step<'a>(inputs: impl IntoIterator<Item = &'a Named>, step: usize) -> Vec<&'a Named> {
+    let mut seen: HashMap<&str, usize> = HashMap::new();
+    let mut taken = |input: &&Named| {
+        let before = seen.entry(input.name).or_default();
+        *before += 1;
+        (*before - 1) % step == 0
+    };
+    inputs.into_iter().filter(|input| taken(input)).collect()
 }

@@ -3,43 +3,65 @@
 
 use crate::bytes::u32_at;
 use crate::card_numbers;
-use crate::cards::{Card, Claim, Kind};
+use crate::cards::{Card, Kind};
 use crate::deck::{self, ENTRIES, ENTRY, MOST_CARDS};
+use crate::earlier::Earlier;
 use crate::far_ends;
-use crate::kepler::PROBLEM;
 use crate::units;
+use crate::version_kinds::{self, version_word};
 
-/// The bytes of the longest listing that there is.
-const LONGEST: usize = 5_087;
+/// The bytes of the longest listing that there is, and of the longest one of version 1.
+const LONGEST: usize = 13_279;
+const LONGEST_OF_ONE: usize = 6_111;
 
 /// A card of a deck that is accepted, and its verdict.
 pub type Judged<'a> = (&'a Card, &'a str);
 
 /// Of a listing: the kind and the verdict of each card, or the deck's refusal; whether the deck has a
 /// transfer, and is refused with it; whether its listing is the longest that there is; and the kinds of its
-/// refused cards' numbers, of its units, and of its solved cards about the far end. A listing calls a transfer
-/// solved; here it is told apart.
-pub fn listed(deck: &[u8], listing: &[u8]) -> Vec<String> {
+/// version, objects and epochs, of its refused cards' numbers, of its units, and of its solved cards about the
+/// far end. A listing calls a transfer solved; here it is told apart.
+pub fn listed(earlier: &mut Earlier, deck: &[u8], listing: &[u8]) -> Vec<String> {
     let listing = String::from_utf8_lossy(listing);
-    let mut entries = entries(deck);
-    let mut kind = |line: &str| match line.split(' ').collect::<Vec<&str>>()[..] {
-        ["card", _, word, verdict] => Some(match entries.next().is_some_and(is_transfer) {
-            true => format!("transfer {verdict}"),
-            false => format!("{word} {verdict}"),
-        }),
-        ["deck", _] => Some(line.to_string()),
-        _ => None,
-    };
-    let mut kinds: Vec<String> = listing.lines().filter_map(&mut kind).collect();
+    let mut kinds = of_lines(deck, &listing);
     kinds.extend(with_transfer(deck, listing.starts_with("deck ")));
-    kinds.extend((listing.len() == LONGEST).then(|| "longest listing".to_string()));
-    let cards = deck::cards(deck).unwrap_or_default();
+    kinds.extend(longest(listing.len()).map(str::to_string));
+    kinds.extend(version_kinds::kinds(deck, &listing));
+    kinds.extend(earlier.kinds(deck, &listing));
+    let cards = deck::read(deck).map_or(Vec::new(), |deck| deck.cards);
     let verdicts = listing.lines().filter_map(verdict);
-    let judged: Vec<Judged> = cards.iter().zip(verdicts).collect();
+    let judged: Vec<Judged> = cards.iter().map(|sent| &sent.card).zip(verdicts).collect();
     kinds.extend(card_numbers::kinds(&judged));
     kinds.extend(units::kinds(&judged, &listing));
     kinds.extend(far_ends::kinds(&judged));
     kinds
+}
+
+/// The kind and the verdict of each card, in version 2 once more with that in front; or the refusal.
+fn of_lines(deck: &[u8], listing: &str) -> Vec<String> {
+    let is_two = version_word(deck) == Some(2);
+    let mut entries = entries(deck);
+    let mut of_line = |line: &str| match line.split(' ').collect::<Vec<&str>>()[..] {
+        ["card", _, word, _, _, verdict] => {
+            let is_transfer = entries.next().is_some_and(is_transfer);
+            let word = if is_transfer { "transfer" } else { word };
+            let kind = format!("{word} {verdict}");
+            let of_two = is_two.then(|| format!("version 2 {kind}"));
+            [Some(kind), of_two]
+        }
+        ["deck", _] => [Some(line.to_string()), None],
+        _ => [None, None],
+    };
+    let kinds = listing.lines().flat_map(&mut of_line);
+    kinds.flatten().collect()
+}
+
+fn longest(length: usize) -> Option<&'static str> {
+    match length {
+        LONGEST => Some("longest listing"),
+        LONGEST_OF_ONE => Some("longest listing of version 1"),
+        _ => None,
+    }
 }
 
 fn verdict(line: &str) -> Option<&str> {
@@ -47,35 +69,18 @@ fn verdict(line: &str) -> Option<&str> {
     Some(verdict)
 }
 
-/// Of what `write_deck` writes: what each card says, `written` and how many there are; or the refusal. The
-/// reader accepts the deck, and its problems are those given, in order.
-pub fn written(problems: &[u8], answer: &[u8]) -> Vec<String> {
-    if let Some(line) = refusal(answer) {
-        return vec![line];
-    }
-    let cards = deck::cards(answer).expect("the reader accepts what is written");
-    let given = problems.chunks(PROBLEM);
-    assert!(
-        cards.iter().map(|card| card.problem.bytes()).eq(given),
-        "a written deck has other problems than those given"
-    );
-    let said = cards.iter().map(|card| match card.claim {
-        Claim::Solved { .. } => "solved".to_string(),
-        Claim::Refused { number, .. } => format!("refused {number}"),
-        Claim::Transfer { .. } => panic!("a written deck has a transfer"),
-    });
-    said.chain(["written".to_string(), how_many(cards.len())])
-        .collect()
-}
-
 /// Of what `copy_deck` writes: `same` where it is the same bytes, `cleared` where it is the same but
-/// for the spares, how many cards there are, and whether one is from before; or the refusal; and whether
-/// the deck has a transfer, and is refused with it.
+/// for the spares, both with the version in front once more, how many cards there are, and whether one is from
+/// before; or the refusal, once more by the version; and whether the deck has a transfer, and is refused with it.
 pub fn copied(deck: &[u8], answer: &[u8]) -> Vec<String> {
     if let Some(line) = refusal(answer) {
-        return [line]
+        let number = line.trim_start_matches("deck ");
+        let by_version = version_word(deck).map(|version| version_kinds::refused(version, number));
+        return by_version
+            .unwrap_or_default()
             .into_iter()
             .chain(with_transfer(deck, true))
+            .chain([line])
             .collect();
     }
     assert!(
@@ -83,30 +88,33 @@ pub fn copied(deck: &[u8], answer: &[u8]) -> Vec<String> {
         "a copy is not the deck with each spare 0"
     );
     let kind = if answer == deck { "same" } else { "cleared" };
+    let by_version = format!("version {} {kind}", u32_at(deck, 0));
     let count = how_many(u32_at(deck, 4) as usize);
-    [kind.to_string(), count]
+    [kind.to_string(), by_version, count]
         .into_iter()
         .chain(card_numbers::with_old(deck))
         .chain(with_transfer(deck, false))
         .collect()
 }
 
-/// The line that stands in for a deck. A deck begins with the byte 1.
-fn refusal(answer: &[u8]) -> Option<String> {
+/// The line that stands in for a deck. A deck begins with the byte 1 or 2.
+pub fn refusal(answer: &[u8]) -> Option<String> {
     let line = String::from_utf8_lossy(answer.strip_suffix(b"\n")?);
     line.starts_with("deck ").then(|| line.into_owned())
 }
 
-/// The deck with each byte of a spare 0, by the entries alone. A transfer has no spare.
+/// The deck with each byte of a spare 0, by the entries alone: behind the limit, and at the end of a refused
+/// card. A transfer has no spare.
 fn cleared(deck: &[u8]) -> Vec<u8> {
     let mut bytes = deck.to_vec();
     for entry in entries(deck) {
-        let (kind, body) = (u32_at(entry, 0), u32_at(entry, 4) as usize);
+        let [kind, body, length] = [0, 4, 8].map(|at| u32_at(entry, at) as usize);
+        let end = body + length;
         if kind == 1 || kind == 2 {
             bytes[body + 68..body + 72].fill(0);
         }
         if kind == 2 {
-            bytes[body + 76..body + 80].fill(0);
+            bytes[end - 4..end].fill(0);
         }
     }
     bytes
@@ -129,14 +137,14 @@ fn is_transfer(entry: &[u8]) -> bool {
 }
 
 /// The entries of a deck, damaged or not, as far as there are any.
-fn entries(deck: &[u8]) -> impl Iterator<Item = &[u8]> {
+pub fn entries(deck: &[u8]) -> impl Iterator<Item = &[u8]> {
     let entries = deck.get(ENTRIES..).unwrap_or_default();
     let count = deck.get(4..ENTRIES).map_or(0, |count| u32_at(count, 0));
     entries.chunks_exact(ENTRY).take(count as usize)
 }
 
 /// The fewest and the most cards, each number a kind of its own; the others are one.
-fn how_many(cards: usize) -> String {
+pub fn how_many(cards: usize) -> String {
     if (3..MOST_CARDS - 1).contains(&cards) {
         "cards between".to_string()
     } else {

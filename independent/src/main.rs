@@ -12,11 +12,14 @@ mod copy_inputs;
 mod damage;
 mod deck;
 mod deck_inputs;
+mod earlier;
 mod edges;
 mod ends;
 mod far_end_inputs;
 mod far_ends;
 mod file_suite;
+mod form_inputs;
+mod form_kinds;
 mod kepler;
 mod kepler_edges;
 mod kepler_inputs;
@@ -34,6 +37,8 @@ mod series_inputs;
 mod solved_cards;
 mod spoilt;
 mod suite;
+mod tagged_decks;
+mod tags;
 mod theta;
 mod theta_inputs;
 mod ties;
@@ -47,6 +52,8 @@ mod transfer_inputs;
 mod unit_cards;
 mod units;
 mod universal;
+mod version_kinds;
+mod versions;
 mod writer;
 
 use bytes::{words_from_bytes, words_to_bytes};
@@ -136,7 +143,7 @@ const WRITE_DECK: FileSuite = FileSuite {
     fixed: problem_inputs::fixed,
     mixed: problem_inputs::mixed,
     answer: writer::written,
-    kinds: kinds::written,
+    kinds: |_, input, answer| form_kinds::written(input, answer),
 };
 
 const COPY_DECK: FileSuite = FileSuite {
@@ -144,7 +151,7 @@ const COPY_DECK: FileSuite = FileSuite {
     fixed: copy_inputs::fixed,
     mixed: deck_inputs::mixed,
     answer: writer::copied,
-    kinds: kinds::copied,
+    kinds: |_, deck, answer| kinds::copied(deck, answer),
 };
 
 fn main() -> ExitCode {

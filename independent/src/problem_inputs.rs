@@ -1,9 +1,11 @@
-//! The problems that the writer is tried on: 0 to 258 in a file, and files that end inside one.
+//! The problems that the writer is tried on: 0 to 258 in a file, and files that end inside one. What is made
+//! here has neither version and form nor objects and epochs; `form_inputs` puts them in.
 
 use crate::chance::Chance;
 use crate::conic::Words;
 use crate::deck::MOST_CARDS;
 use crate::file_suite::{named, Named};
+use crate::form_inputs;
 use crate::kepler::{self, Input, PROBLEM};
 use crate::kepler_inputs::{self, LIMITS};
 use crate::motion::{self, SPAN};
@@ -15,6 +17,10 @@ const CUTS: [usize; 10] = [1, 7, 8, 9, 33, 63, 64, 65, 66, 67];
 
 /// The gate's inputs, the same list in every run.
 pub fn fixed() -> Vec<Named> {
+    form_inputs::fixed(&bare())
+}
+
+fn bare() -> Vec<Named> {
     let chance = &mut Chance::at(5, 0);
     let problems = kepler_inputs::shuffled(chance);
     let mut list = trials();
@@ -26,12 +32,18 @@ pub fn fixed() -> Vec<Named> {
     list.extend(limits(chance));
     list.extend(cut(&problems));
     list.extend(long(&problems));
-    list.extend((0..250).map(|_| mixed(chance)));
+    list.extend((0..250).map(|_| bare_mixed(chance)));
     list
 }
 
-/// One file of some kind. Most of them have whole problems alone, and not too many.
+/// One file of some kind, in either form.
 pub fn mixed(chance: &mut Chance) -> Named {
+    let bare = bare_mixed(chance);
+    form_inputs::by_chance(bare, chance)
+}
+
+/// Most of them have whole problems alone, and not too many.
+fn bare_mixed(chance: &mut Chance) -> Named {
     let most = chance.one_of(&[1, 4, 16, 16, 20, 64, 260]);
     let count = chance.below(most + 1);
     let problems: Vec<Input> = (0..count).map(|_| kepler_inputs::mixed(chance)).collect();

@@ -6,13 +6,14 @@ use crate::chance::Chance;
 use crate::copy_inputs::{every_spare, with_word};
 use crate::damage;
 use crate::deck::MOST_CARDS;
-use crate::deck_inputs::{cards_of_a, dealt, mixed, of_sorts};
+use crate::deck_inputs::{cards_of_a, dealt, mixed_of, of_sorts};
 use crate::file_suite::{named, Named};
 use crate::kepler_inputs;
 use crate::spoilt::NOT_FINITE;
 use crate::transfer::{self, Input};
 use crate::transfer_cards::{self, own, with_way, SORTS};
 use crate::transfer_inputs::{trials, NO_WAYS};
+use crate::versions::Version;
 use crate::writer::deck;
 
 /// The gate's decks to check, the same list in every run.
@@ -22,7 +23,7 @@ pub fn fixed() -> Vec<Named> {
     list.extend(of_sorts(&SORTS, chance));
     list.extend(named("three-kinds", three_kinds(chance)));
     list.extend(damaged());
-    list.extend((0..60).map(|_| mixed(chance)));
+    list.extend((0..60).map(|_| mixed_of(Version::One, chance)));
     list
 }
 
@@ -58,11 +59,11 @@ fn cards_of_trials() -> [Card; 2] {
     })
 }
 
-/// A deck of three cards, of each kind one: solved, transfer, refused.
-fn deck_of_each_kind() -> Vec<u8> {
+/// Three cards, of each kind one: solved, transfer, refused.
+pub fn of_each_kind() -> [Card; 3] {
     let [solved, refused, _] = cards_of_a();
     let [_, long] = cards_of_trials();
-    deck(&[solved, long, refused])
+    [solved, long, refused]
 }
 
 /// Cards of the three kinds, our own answers, in decks of many numbers of cards: as they come, and
@@ -91,15 +92,17 @@ fn of_own(count: usize, chance: &mut Chance) -> Vec<u8> {
 
 /// The deck with a card of each kind, damaged.
 fn damaged() -> Vec<Named> {
-    let whole = deck_of_each_kind();
+    let whole = deck(&of_each_kind());
     let length = whole.len();
     let trailing = [1, 4, 12, 24].map(|more| damage::lengthened(&whole, length + more, 0));
     // The bytes of the transfer's body alone.
     let bytes = damage::each_byte(&whole).into_iter().step_by(2);
     let bytes = bytes.skip(172).take(104).step_by(2);
+    let kinds = [0, 1, 2, 3, 4, 0x0100_0003];
+    let lengths = [80, 103, 104, 105, 128];
     [
         named("cut", damage::cut(&whole).into_iter().skip(3).step_by(6)),
-        named("entry", damage::kinds_and_lengths(&whole)),
+        named("entry", damage::kinds_and_lengths(&whole, &kinds, &lengths)),
         named("damage", damage::each(&whole)),
         named("gap", damage::gaps(&whole).into_iter().step_by(3)),
         named("swapped", damage::swapped(&whole)),

@@ -160,8 +160,9 @@ impl Recipe {
 }
 
 fn with_other_velocity(card: &Card, chance: &mut Chance) -> Card {
-    let at = card.kind().length() - 8;
-    let last = u64_at(&card.body(), at);
+    let body = card.body();
+    let at = body.len() - 8;
+    let last = u64_at(&body, at);
     with_word(card, at, last ^ 1 << chance.below(63))
 }
 

@@ -15,7 +15,7 @@ use Rattle.version.specs.declared.Version.the-variants as version
 use Rattle.version.specs.Version.{tagSize, largestTag}
 use Rattle.tag.specs.declared.Tag.{Tag}
 use Rattle.tag.specs.declared.Tag.the-variants as tag
-use Rattle.tag.specs.Tag.{epochOf}
+use Rattle.tag.specs.Tag.{tagWith}
 use Rattle.arc.specs.declared.Way.{Way}
 use Rattle.arc.specs.declared.Way.the-variants as way
 use Rattle.arc.specs.declared.Transfer.{Transfer}
@@ -118,7 +118,7 @@ vectorAt body at = record { x = numberAt body at; y = numberAt body (at + 8); z 
 -- The deck 4 and 10: object and epoch of a card, which version 1 does not have
 unfoldable pub tagOf : Version → Kind → (body : List ℕ) → Tag
 tagOf version.One kind body = tag.Absent
-tagOf version.Two kind body = tag.Present (valueAt 4 body (tagAt kind)) (epochOf (valueAt 8 body (tagAt kind + 4)))
+tagOf version.Two kind body = tagWith (valueAt 4 body (tagAt kind)) (valueAt 8 body (tagAt kind + 4))
 
 -- The deck 4: mu, r, v, dt, limit u32, spare u32
 unfoldable pub problemOf : List ℕ → Problem

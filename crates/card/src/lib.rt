@@ -132,7 +132,7 @@ fn own(kind: Kind) -> usize
 }
 
 // The bytes of a problem as it is given to be written, with object and epoch where the version has them.
-pub fn given(version: Version) -> usize
+pub fn given_size(version: Version) -> usize
     ensures { λ r. ⌜ r ≡ givenSize version ⌝ }
 {
     PROBLEM + version.tag()
@@ -176,9 +176,7 @@ pub fn tag(version: Version, kind: Kind, body: &[u8]) -> Tag
         Version::One => Tag::Absent,
         Version::Two => {
             let at = tag_at(kind);
-            let object = words::half(body, at);
-            let epoch = tag::seconds(words::word(body, at + 4));
-            Tag::Present { object, epoch }
+            tag::present(words::half(body, at), words::word(body, at + 4))
         }
     }
 }

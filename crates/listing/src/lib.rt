@@ -64,13 +64,7 @@ fn cards(deck: &[u8], verdicts: &[u32], count: u32, page: &mut [u8]) -> usize
 }
 
 // The same in a version. No card is without a kind.
-fn card_lines(
-    deck: &[u8],
-    version: Version,
-    verdicts: &[u32],
-    count: u32,
-    page: &mut [u8],
-) -> usize
+fn card_lines(deck: &[u8], version: Version, verdicts: &[u32], count: u32, page: &mut [u8]) -> usize
     requires { ⌜ Judged (now deck) (now verdicts) count × (versionOf (versionWord (now deck)) ≡ pass version) ⌝ }
     ensures { λ r. ⌜ ((d : Deck) → deckIn (now (deck .entry)) ≡ pass d → Put (now (page .entry)) 0 (listing.cardLines version 1 (d .cards)) (now (page .exit)) r) ⌝ }
 {

@@ -42,7 +42,7 @@ pub fn put(version: Version, problems: &[u8], out: &mut [u8], at: usize) -> Plac
     ensures { λ r. ⌜ said r ≡ placedIn (now (out .entry)) at (firstCard version (now (problems .entry))) ⌝ }
     ensures { λ r. ⌜ now (out .exit) ≡ withBody (now (out .entry)) at (firstCard version (now (problems .entry))) ⌝ }
 {
-    let size = card::given(version);
+    let size = card::given_size(version);
     if problems.len() < size {
         return Placed::Refused(Reason::BytesDoNotFit);
     }

@@ -36,7 +36,7 @@ fn put(version: Version, problems: &[u8], buffer: &mut [u8]) -> Written
     ensures { λ r. ⌜ said r ≡ lengthFor (predictedDeck version (now (problems .entry))) (length (now (buffer .entry))) ⌝ }
     ensures { λ r. ⌜ now (buffer .exit) ≡ bufferAfter (predictedDeck version (now (problems .entry))) (now (buffer .entry)) ⌝ }
 {
-    let size = card::given(version);
+    let size = card::given_size(version);
     let count = problems.len() / size;
     if contents::MOST_CARDS < count {
         return Written::Refused(Reason::TooManyGiven);
@@ -78,7 +78,7 @@ fn fill(version: Version, problems: &[u8], page: &mut [u8]) -> usize
     requires { ⌜ (length (now problems) / givenSize version ≤ mostCards) × (entryAt (length (now problems) / givenSize version) ≤ length (now page)) ⌝ }
     ensures { λ r. ⌜ Put (now (page .entry)) 0 (deckOf (deckFrom version (now (problems .entry)))) (now (page .exit)) r ⌝ }
 {
-    let count = problems.len() / card::given(version);
+    let count = problems.len() / card::given_size(version);
     let mut kinds = [0u32; contents::MOST_CARDS];
     let end = answer(
         version,
@@ -103,7 +103,7 @@ fn answer(
     ensures { λ r. ⌜ Put (now (kinds .entry)) 0 (kindsOf (deckFrom version (now (problems .entry)) .cards)) (now (kinds .exit)) (length (now (problems .entry)) / givenSize version) ⌝ }
     ensures { λ r. ⌜ Put (now (page .entry)) start (bodiesOf (deckFrom version (now (problems .entry)) .cards)) (now (page .exit)) r ⌝ }
 {
-    let size = card::given(version);
+    let size = card::given_size(version);
     let mut i = 0;
     let mut at = 0;
     let mut end = start;

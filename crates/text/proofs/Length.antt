@@ -9,9 +9,12 @@ use native.Mathlib.Omega.{arith}
 use borrow.Author.Tests.{ltb-true, ltb-false}
 use lib.Dec.{ltb}
 use lib.Ieee.{Float}
+use lib.IntN.{ℤ, pos, negsuc}
 use lib.ListN.{length, length-append}
+use mir.Syntax.{w64}
+use mir.Val.{SFits}
 use Rattle.exact.specs.Numbers.{wordOf}
-use Rattle.text.specs.Text.{decimal, hex, count, whole, number}
+use Rattle.text.specs.Text.{decimal, hex, count, whole, signed, number}
 
 -- ---- decimal digits
 
@@ -60,7 +63,7 @@ length-self (suc k) n = go (digits k n) (length-self k (n / 10))
     go (single h e) fewer = omega arith
     go (several h e) fewer = omega arith
 
--- ---- hex digits, numbers, counts and whole numbers
+-- ---- hex digits, numbers, counts, whole numbers and epochs
 
 -- exactly as many as were asked for
 length-hex : (k n : ℕ) → length (hex k n) ≡ k
@@ -68,7 +71,7 @@ unfolding hex
 length-hex zero n = refl
 length-hex (suc k) n = length-append (hex k (n / 16)) _ ∙ add-one _ ∙ ap suc (length-hex k (n / 16))
 
--- with the space in front: a number has 17 bytes, a count at most 11, a whole number at most 21
+-- with the space in front: a number has 17 bytes, a count at most 11, a whole number at most 21, and an epoch of 64 bits too, sign and all
 pub length-number : (x : Float) → length (number x) ≡ 17
 length-number x = ap suc (length-hex 16 (wordOf x))
 
@@ -77,3 +80,7 @@ length-count n = omega (arith, length-decimal 10 n)
 
 pub length-whole : (n : ℕ) → length (whole n) ≤ 21
 length-whole n = omega (arith, length-decimal 20 n)
+
+pub length-signed : (z : ℤ) → SFits w64 z → length (signed z) ≤ 21
+length-signed (pos n) f = length-whole n
+length-signed (negsuc n) f = omega (arith, length-under 20 (n + 1) 19 (omega arith) (omega (arith, f .sfits)))

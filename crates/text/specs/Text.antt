@@ -27,14 +27,18 @@ decimal (suc k) n = cond (ltb n 10) [] (decimal k (n / 10)) ++ (digit (n % 10) �
 abbrev pub count : ℕ → List ℕ
 count n = 32 ∷ decimal 10 n
 
--- Text 2: a whole number on a sheet, which has at most twenty digits
-abbrev pub whole : ℕ → List ℕ
-whole n = 32 ∷ decimal 20 n
+-- Text 2: the decimal digits of a whole number, which are at most twenty, behind a byte that leads
+abbrev pub led : (lead n : ℕ) → List ℕ
+led lead n = lead ∷ decimal 20 n
 
--- Text 2: an epoch, which may be negative
+-- Text 2: a whole number on a sheet
+abbrev pub whole : ℕ → List ℕ
+whole n = led 32 n
+
+-- Text 2: an epoch, which may be negative: then `-` stands between the space and the digits (`negsuc n` is -1 - n)
 abbrev pub signed : ℤ → List ℕ
 signed (pos n) = whole n
-signed (negsuc n) = 32 ∷ 45 ∷ decimal 20 (n + 1)
+signed (negsuc n) = 32 ∷ led 45 (n + 1)
 
 -- Text 3: the last k hex digits of n
 unfoldable pub hex : (k n : ℕ) → List ℕ

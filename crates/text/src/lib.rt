@@ -3,7 +3,6 @@
 //
 // Every function here is proved, the public ones are total, and the crate assumes nothing.
 ghost use mathlib.Core.Path.{_≡_};
-ghost use mathlib.Core.List.{_∷_};
 ghost use Prim.Native.Nat.{_<_};
 ghost use Rattle.pieces.specs.Pieces.{putIn, endIn};
 ghost use Rattle.text.specs.Text as text;
@@ -33,13 +32,13 @@ pub fn signed(out: &mut [u8], at: usize, n: i64) -> usize
         let end = pieces::put(out, at, b" ");
         return led(out, end, (-1 - n) as u64 + 1, 45);
     }
-    led(out, at, n as u64, 32)
+    whole(out, at, n as u64)
 }
 
 // The byte lead, and n in decimal behind it, from the last digit on.
 fn led(out: &mut [u8], at: usize, n: u64, lead: u8) -> usize
-    ensures { λ r. ⌜ r ≡ endIn (now (out .entry)) at (lead ∷ text.decimal 20 n) ⌝ }
-    ensures { λ r. ⌜ now (out .exit) ≡ putIn (now (out .entry)) at (lead ∷ text.decimal 20 n) ⌝ }
+    ensures { λ r. ⌜ r ≡ endIn (now (out .entry)) at (text.led lead n) ⌝ }
+    ensures { λ r. ⌜ now (out .exit) ≡ putIn (now (out .entry)) at (text.led lead n) ⌝ }
 {
     let mut digits = [lead; 21];
     digits[20] = digit(n % 10);

@@ -21,13 +21,7 @@ ghost use Rattle.layout.specs.Written.{lengthFor, bufferAfter, said};
 
 // Writes the cards with these kinds and these fields, which have this form, one card's behind the other's
 // and without spares, as a deck of the version with this number at the front of the buffer.
-pub fn write(
-    number: u32,
-    form: u32,
-    kinds: &[u32],
-    fields: &[u8],
-    buffer: &mut [u8],
-) -> Written
+pub fn write(number: u32, form: u32, kinds: &[u32], fields: &[u8], buffer: &mut [u8]) -> Written
     ensures { λ r. ⌜ said r ≡ lengthFor (finishedDeck number form (now (kinds .entry)) (now (fields .entry))) (length (now (buffer .entry))) ⌝ }
     ensures { λ r. ⌜ now (buffer .exit) ≡ bufferAfter (finishedDeck number form (now (kinds .entry)) (now (fields .entry))) (now (buffer .entry)) ⌝ }
 {
