@@ -6,6 +6,7 @@ use Rattle.coincidence.specs.Coincidence.{OneToOne}
 use Rattle.coincidence.proofs.Laws.{undone}
 use Rattle.rows.specs.Rows.{Checked, pass, refuse}
 use Rattle.ruling.proofs.Reasons.{reasonOf, reason-is}
+use Rattle.version.specs.declared.Version.{Version}
 use Rattle.card.specs.declared.Kind.{Kind}
 use Rattle.contents.specs.declared.Entry.{Entry}
 use Rattle.contents.specs.declared.Entry.the-variants as entry
@@ -26,12 +27,12 @@ pub entered-once : OneToOne entered
 entered-once = undone entered unentered unentered-is
 
 -- the contents' answer
-abbrev unlisted : Checked ℕ → Contents
-unlisted (pass count) = contents.Cards count
+abbrev unlisted : Checked (Version × ℕ) → Contents
+unlisted (pass found) = contents.Cards (found .0) (found .1)
 unlisted (refuse k) = contents.Refused (reasonOf k)
 
 unlisted-is : (c : Contents) → unlisted (listed c) ≡ c
-unlisted-is (contents.Cards count) = refl
+unlisted-is (contents.Cards v count) = refl
 unlisted-is (contents.Refused r) = ap contents.Refused (reason-is r)
 
 pub listed-once : OneToOne listed

@@ -16,7 +16,7 @@ returns c = rw (← c .before .before .kind-at .ensures, c .enum-told .given .1)
 
 -- past the first test, the row as it was found
 known : (c : tie.After-half) → let from = c .before .before .before .before .before .before .before .args in
-    entryIn (from .deck .now) (from .i) (from .at) ≡ must (eqb (c .half .result) (c .before .size .result)) 35 (must (eqb (offsetAt (from .deck .now) (from .i)) (from .at)) 36 (must (leb (from .at + c .before .size .result) (length (from .deck .now))) 37 (pass (c .before .before .before .kind .given .0 .0))))
+    entryIn (from .version) (from .deck .now) (from .i) (from .at) ≡ must (eqb (c .half .result) (c .before .size .result)) 35 (must (eqb (offsetAt (from .deck .now) (from .i)) (from .at)) 36 (must (leb (from .at + c .before .size .result) (length (from .deck .now))) 37 (pass (c .before .before .before .kind .given .0 .0))))
 unfolding onward entryIn
 known c = rw (← c .before .before .before .before .before .kind-at .ensures, c .before .before .before .kind .given .1, ← c .half .ensures, ← c .before .size .ensures) refl
 
@@ -26,7 +26,7 @@ returns-2 c = rw (known (c .before), ne-eqb (c .before .half .result) (c .before
 
 -- past the second
 right-length : (c : tie.After-half2) → let size = c .before .before .before in let from = size .before .before .before .before .before .before .args in
-    entryIn (from .deck .now) (from .i) (from .at) ≡ must (eqb (c .half2 .result) (from .at)) 36 (must (leb (from .at + size .size .result) (length (from .deck .now))) 37 (pass (size .before .before .kind .given .0 .0)))
+    entryIn (from .version) (from .deck .now) (from .i) (from .at) ≡ must (eqb (c .half2 .result) (from .at)) 36 (must (leb (from .at + size .size .result) (length (from .deck .now))) 37 (pass (size .before .before .kind .given .0 .0)))
 unfolding must
 right-length c = rw (known (c .before .before), eq-eqb (c .before .before .half .result) (c .before .before .before .size .result) (c .before .if1 .left), ← c .half2 .ensures) refl
 
@@ -36,7 +36,7 @@ returns-3 c = rw (right-length (c .before), ne-eqb (c .before .half2 .result) (c
 
 -- past the third: the last body ended where a word of four bytes says
 right-offset : (c : tie.Else2) → let size = c .before .before .before .before in let from = size .before .before .before .before .before .before .args in
-    entryIn (from .deck .now) (from .i) (from .at) ≡ must (leb (from .at + size .size .result) (length (from .deck .now))) 37 (pass (size .before .before .kind .given .0 .0))
+    entryIn (from .version) (from .deck .now) (from .i) (from .at) ≡ must (leb (from .at + size .size .result) (length (from .deck .now))) 37 (pass (size .before .before .kind .given .0 .0))
 unfolding must
 right-offset c = rw (right-length (c .before), eq-eqb (c .before .half2 .result) (c .before .before .before .before .before .before .before .before .before .before .args .at) (c .if2 .left)) refl
 
