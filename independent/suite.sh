@@ -2,7 +2,7 @@
 # answers are compared. For bash, sourced at the top of the repository.
 # shellcheck shell=bash disable=SC2034
 
-# A kind for each NUMBER, which stands in the place of #.
+# A kind for each NUMBER, or words, which stand in the place of #.
 each() { # KIND NUMBER...
     local kind=$1 number list=
     shift
@@ -141,9 +141,9 @@ longest listing of version 1: 1, $(past_far_end), version 1: 3700, version 2: 16
 refused version 2: 480, $(each 'version 1 deck #' '32: 53' '33: 92' '34: 100' '35: 195' '36: 200' '37: 360' '38: 100'), \
 $(each 'version 2 deck #' '32: 17' '33: 14' '34: 60' '35: 165' '36: 98' '37: 88' '38: 37'), \
 version word 0 deck 31: 24, version word 3 deck 31: 20, version word 4294967295 deck 31: 8, \
-another version word deck 31: 98, $(version_2), $(objects_and_epochs), objects and epochs all different: 1150, epochs alone different: 110, \
-objects and epochs all the same: 145, same but for object and epoch: 225, same but for the version: 780, \
-$(each 'byte altered #: 392' once twice thrice)"
+another version word deck 31: 98, $(version_2), $(objects_and_epochs), objects and epochs all different: 1150, \
+epochs alone different: 110, objects and epochs all the same: 145, same but for object and epoch: 225, \
+same but for the version: 780, $(each 'byte altered #: 392' once twice thrice)"
     "write_deck .problems 900 written: 500, solved: 3000, $(each 'refused #: 50' {101..108}), refused 2: 100, \
 refused 3: 100, refused 5: 50, refused 6: 50, refused 7: 50, refused 8: 50, refused 9: 32, refused 10: 50, refused 11: 50, \
 deck 40: 10, deck 46: 100, cards 0: 4, cards 1: 100, cards 2: 4, cards 255: 3, cards 256: 6, cards between: 100, \

@@ -111,24 +111,18 @@ fn damaged() -> Vec<Named> {
         damage::lengthened(&small, small.len() + more, fill)
     });
     let lengths = [80, 92, 104, 116, 128, 140];
+    let entries = damage::kinds_and_lengths(&small, &[1, 2, 3, 4], &lengths);
+    let without = damage::in_other_version(&small, Version::Two);
+    let with = damage::in_other_version(&ones[0], Version::One);
     [
         named("version", versions.concat()),
         named("cut", damage::cut(&small).into_iter().step_by(5)),
         named("cut", damage::cut(&small).into_iter().rev().take(14)),
         named("field", damage::each_field(&small).into_iter().step_by(2)),
-        named(
-            "entry",
-            damage::kinds_and_lengths(&small, &[1, 2, 3, 4], &lengths),
-        ),
+        named("entry", entries),
         named("damage", damage::each_of_version(&a)),
-        named(
-            "other-version",
-            damage::in_other_version(&small, Version::Two),
-        ),
-        named(
-            "other-version",
-            damage::in_other_version(&ones[0], Version::One),
-        ),
+        named("other-version", without),
+        named("other-version", with),
         named("gap", damage::gaps(&small).into_iter().step_by(3)),
         named("swapped", damage::swapped(&small)),
         named("trailing", trailing),
@@ -192,9 +186,9 @@ pub fn to_copy(ones: &[Named]) -> Vec<Named> {
     list
 }
 
+/// Some of the damages, and some bytes of the small deck altered, in one way and the other in turns.
 fn damaged_to_copy() -> Vec<Named> {
     let bytes = damage::each_byte_by(&small(), [3, 0x80]).into_iter();
-    // One way of altering a byte and the other in turns.
     let list = damaged().into_iter().step_by(9);
     list.chain(named("byte", bytes.step_by(7))).collect()
 }

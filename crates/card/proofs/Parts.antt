@@ -7,13 +7,16 @@ use native.Mathlib.Omega.{arith}
 use lib.ListN.{length, take, drop, length-append, length-drop}
 use lib.Seq.{take-all, take-at, drop-at, drop-drop, take-append-le, drop-append-le}
 use Rattle.spelled.proofs.Length.{length-bytes}
+use Rattle.words.specs.Words.{valueAt}
+use Rattle.words.proofs.Standing.{valueAt-part}
 use Rattle.version.specs.declared.Version.{Version}
 use Rattle.version.specs.declared.Version.the-variants as version
 use Rattle.version.specs.Version.{tagSize, largestTag}
 use Rattle.card.specs.declared.Kind.{Kind}
 use Rattle.card.specs.declared.Kind.the-variants as kind
-use Rattle.card.specs.Fields.{problemSize, questionSize, answerSize, answerAt, tagAt, Parts, parts, partsOf}
+use Rattle.card.specs.Fields.{problemSize, questionSize, answerSize, sizeOf, answerAt, tagAt, Parts, parts, partsOf}
 use Rattle.card.specs.Made.{spare, bodyOf}
+use Rattle.card.proofs.Sizes.{answer-inside}
 
 -- ---- object and epoch are not read
 
@@ -37,6 +40,15 @@ unfolding tagAt answerAt tagSize
 untagged kind.Solved front tag rest f t = in-front version.Two front tag rest (answerSize kind.Solved) f t ∙ sym (ap₂ parts (take-at front rest questionSize f) (ap (take (answerSize kind.Solved)) (drop-at front rest questionSize f)))
 untagged kind.Refused front tag rest f t = in-front version.Two front tag rest (answerSize kind.Refused) f t ∙ sym (ap₂ parts (take-at front rest questionSize f) (ap (take (answerSize kind.Refused)) (drop-at front rest questionSize f)))
 untagged kind.Transfer front tag rest f t = all-in-front front (tag ++ rest) (answerSize kind.Transfer) (omega (arith, f)) ∙ sym (all-in-front front rest (answerSize kind.Transfer) (omega (arith, f)))
+
+-- ---- a body that has its size: what is read in its parts stands in it
+
+module _ (v : Version) (k : Kind) (body : List ℕ) (sized : length body ≡ sizeOf v k) where
+  pub question-reads : (n at : ℕ) → at + n ≤ questionSize → valueAt n (partsOf v k body .question) at ≡ valueAt n body at
+  question-reads n at h = valueAt-part n body 0 questionSize at (omega (arith, sized)) h ∙ ap (valueAt n body) (omega arith)
+
+  pub answer-reads : (n at : ℕ) → at + n ≤ answerSize k → valueAt n (partsOf v k body .answer) at ≡ valueAt n body (answerAt v k + at)
+  answer-reads n at h = valueAt-part n body (answerAt v k) (answerSize k) at (omega (arith, sized, answer-inside v k)) h
 
 -- ---- the cards that are made, in either version
 

@@ -12,9 +12,12 @@ use Rattle.words.proofs.Written.{Bytes}
 use Rattle.words.proofs.Standing.{stands, number-stands}
 use Rattle.rows.specs.Rows.{pass}
 use Rattle.rows.proofs.Laws.{test-passed}
+use Rattle.version.specs.declared.Version.{Version}
+use Rattle.version.specs.Version.{versionNumber}
+use Rattle.version.proofs.Sizes.{number-of-version}
 use Rattle.card.specs.declared.Kind.{Kind}
 use Rattle.card.specs.Fields.{Card, kindNumber, sizeOf}
-use Rattle.contents.specs.Contents.{entryAt, theVersion, mostCards, countOf, entryIn, cardsFrom, cardsOf}
+use Rattle.contents.specs.Contents.{Deck, entryAt, mostCards, versionWord, countOf, entryIn, cardsFrom, deckIn}
 use Rattle.contents.proofs.Cards.{entry-means, entry-inside, one-more, no-more}
 use Rattle.contents.proofs.Opened.{opened-to}
 use Rattle.contents.proofs.Sizes.{few-cards}
@@ -24,59 +27,61 @@ use Rattle.layout.proofs.KindNumbers.{number-of-kind}
 
 -- ---- the sizes
 
-pub sized-from : (deck : List ℕ) (left i at : ℕ) (cards : List Card) → cardsFrom deck left i at ≡ pass cards → AllSized cards
-sized-from deck zero i at cards h = subst AllSized (sym (no-more deck i at cards h)) tt
-sized-from deck (suc left) i at cards h =
-    let m = one-more deck left i at cards h in
-    let room : sizeOf (m .kind) ≤ length (drop at deck) = simp length-drop (omega (arith, entry-inside deck i at (m .kind) (m .entry))) in
-    subst AllSized (sym (m .cards-is)) (length-take-le (sizeOf (m .kind)) (drop at deck) room, sized-from deck left (i + 1) (at + sizeOf (m .kind)) (m .rest) (m .others))
+pub sized-from : (v : Version) (deck : List ℕ) (left i at : ℕ) (cards : List Card) → cardsFrom v deck left i at ≡ pass cards → AllSized v cards
+sized-from v deck zero i at cards h = subst (AllSized v) (sym (no-more v deck i at cards h)) tt
+sized-from v deck (suc left) i at cards h =
+    let m = one-more v deck left i at cards h in
+    let room : sizeOf v (m .kind) ≤ length (drop at deck) = simp length-drop (omega (arith, entry-inside v deck i at (m .kind) (m .entry))) in
+    subst (AllSized v) (sym (m .cards-is)) (length-take-le (sizeOf v (m .kind)) (drop at deck) room, sized-from v deck left (i + 1) (at + sizeOf v (m .kind)) (m .rest) (m .others))
 
-pub cards-sized : (deck : List ℕ) (cards : List Card) → cardsOf deck ≡ pass cards → (length cards ≤ mostCards) × AllSized cards
-cards-sized deck cards h =
+pub cards-sized : (deck : List ℕ) (d : Deck) → deckIn deck ≡ pass d → (length (d .cards) ≤ mostCards) × AllSized (d .version) (d .cards)
+cards-sized deck d h =
     let n = countOf deck in
-    (omega (arith, few-cards deck cards h), sized-from deck n 0 (entryAt n) cards (opened-to deck cards h .1))
+    (omega (arith, few-cards deck d h), sized-from (d .version) deck n 0 (entryAt n) (d .cards) (opened-to deck d h .1))
 
 -- ---- the bytes
 
 -- where an entry passes, it stands
-entry-stands : (deck : List ℕ) (i at : ℕ) (kind : Kind) → Bytes deck → entryAt (i + 1) ≤ length deck → entryIn deck i at ≡ pass kind → drop (entryAt i) deck ≡ entryFor kind at ++ drop (entryAt (i + 1)) deck
-entry-stands deck i at kind b inside h =
-    let m = entry-means deck i at kind h in
+entry-stands : (v : Version) (deck : List ℕ) (i at : ℕ) (kind : Kind) → Bytes deck → entryAt (i + 1) ≤ length deck → entryIn v deck i at ≡ pass kind → drop (entryAt i) deck ≡ entryFor v kind at ++ drop (entryAt (i + 1)) deck
+entry-stands v deck i at kind b inside h =
+    let m = entry-means v deck i at kind h in
     let kind-stands = number-stands 4 deck (entryAt i) (entryAt i + 4) (kindNumber kind) b refl (omega arith) (sym (number-of-kind _ kind (m .kind-is))) in
     let offset-stands = number-stands 4 deck (entryAt i + 4) (entryAt i + 8) at b (omega arith) (omega arith) (m .offset-is) in
-    let length-stands = number-stands 4 deck (entryAt i + 8) (entryAt (i + 1)) (sizeOf kind) b (omega arith) inside (m .length-is) in
+    let length-stands = number-stands 4 deck (entryAt i + 8) (entryAt (i + 1)) (sizeOf v kind) b (omega arith) inside (m .length-is) in
     rw (kind-stands, offset-stands, length-stands) (simp append-assoc refl)
 
-entries-stand : (deck : List ℕ) (left i at : ℕ) (cards : List Card) → Bytes deck → entryAt (i + left) ≤ length deck → cardsFrom deck left i at ≡ pass cards → drop (entryAt i) deck ≡ entriesFrom at (kindsIn cards) ++ drop (entryAt (i + left)) deck
+entries-stand : (v : Version) (deck : List ℕ) (left i at : ℕ) (cards : List Card) → Bytes deck → entryAt (i + left) ≤ length deck → cardsFrom v deck left i at ≡ pass cards → drop (entryAt i) deck ≡ entriesFrom v at (kindsIn cards) ++ drop (entryAt (i + left)) deck
 unfolding entriesFrom
-entries-stand deck zero i at cards b inside h =
+entries-stand v deck zero i at cards b inside h =
     let none : i + 0 ≡ i = omega arith in
-    rw (no-more deck i at cards h, none) refl
-entries-stand deck (suc left) i at cards b inside h =
-    let m = one-more deck left i at cards h in
+    rw (no-more v deck i at cards h, none) refl
+entries-stand v deck (suc left) i at cards b inside h =
+    let m = one-more v deck left i at cards h in
     let next : i + suc left ≡ i + 1 + left = omega arith in
-    rw (m .cards-is, next, entry-stands deck i at (m .kind) b (omega arith) (m .entry), entries-stand deck left (i + 1) (at + sizeOf (m .kind)) (m .rest) b (omega arith) (m .others)) (simp append-assoc refl)
+    rw (m .cards-is, next, entry-stands v deck i at (m .kind) b (omega arith) (m .entry), entries-stand v deck left (i + 1) (at + sizeOf v (m .kind)) (m .rest) b (omega arith) (m .others)) (simp append-assoc refl)
 
-bodies-stand : (deck : List ℕ) (left i at : ℕ) (cards : List Card) → cardsFrom deck left i at ≡ pass cards → drop at deck ≡ bodiesOf cards
+bodies-stand : (v : Version) (deck : List ℕ) (left i at : ℕ) (cards : List Card) → cardsFrom v deck left i at ≡ pass cards → drop at deck ≡ bodiesOf cards
 unfolding cardsFrom bodiesOf
-bodies-stand deck zero i at cards h =
+bodies-stand v deck zero i at cards h =
     let end : at ≡ length deck = eqb-true at (length deck) (test-passed (eqb at (length deck)) 38 (pass []) h .0) in
-    drop-of-length-le deck {i = at} (omega arith) ∙ ap bodiesOf (sym (no-more deck i at cards h))
-bodies-stand deck (suc left) i at cards h =
-    let m = one-more deck left i at cards h in
-    let size = sizeOf (m .kind) in
-    stands deck at size ∙ ap (λ (rest : List ℕ). take size (drop at deck) ++ rest) (bodies-stand deck left (i + 1) (at + size) (m .rest) (m .others)) ∙ ap bodiesOf (sym (m .cards-is))
+    drop-of-length-le deck {i = at} (omega arith) ∙ ap bodiesOf (sym (no-more v deck i at cards h))
+bodies-stand v deck (suc left) i at cards h =
+    let m = one-more v deck left i at cards h in
+    let size = sizeOf v (m .kind) in
+    stands deck at size ∙ ap (λ (rest : List ℕ). take size (drop at deck) ++ rest) (bodies-stand v deck left (i + 1) (at + size) (m .rest) (m .others)) ∙ ap bodiesOf (sym (m .cards-is))
 
-pub write-back : (deck : List ℕ) (cards : List Card) → Bytes deck → cardsOf deck ≡ pass cards → deckOf cards ≡ deck
+pub write-back : (deck : List ℕ) (d : Deck) → Bytes deck → deckIn deck ≡ pass d → deckOf d ≡ deck
 unfolding deckOf
-write-back deck cards b h =
+write-back deck d b h =
+    let v = d .version in
+    let cards = d .cards in
     let n = countOf deck in
-    let o = opened-to deck cards h .0 in
-    let from = opened-to deck cards h .1 in
+    let o = opened-to deck d h .0 in
+    let from = opened-to deck d h .1 in
     let inside = o .inside in
-    let version-stands = number-stands 4 deck 0 4 theVersion b refl (omega arith) (o .version) in
+    let version-stands = number-stands 4 deck 0 4 (versionNumber v) b refl (omega arith) (number-of-version (versionWord deck) v (o .version)) in
     let count-stands = number-stands 4 deck 4 (entryAt 0) n b refl (omega arith) refl in
     let all : 0 + n ≡ n = omega arith in
-    let entries = rw all at (entries-stand deck n 0 (entryAt n) cards b (omega arith) from) in
+    let entries = rw all at (entries-stand v deck n 0 (entryAt n) cards b (omega arith) from) in
     simp append-assoc
-    (rw (few-cards deck cards h .0, ← bodies-stand deck n 0 (entryAt n) cards from, ← entries, ← count-stands) (sym version-stands))
+    (rw (few-cards deck d h .0, ← bodies-stand v deck n 0 (entryAt n) cards from, ← entries, ← count-stands) (sym version-stands))

@@ -1,5 +1,5 @@
 -- What writing cards into a buffer comes to: a refusal, which leaves the buffer as it was, or the deck at its front.
-use mathlib.Core.Path.{_≡_, refl, ap}
+use mathlib.Core.Path.{_≡_, refl, sym, ap, _∙_}
 use mathlib.Core.List.{List}
 use Prim.Native.Nat.{ℕ, _≤_, _<_}
 use borrow.Author.Tests.{leb-true, le-leb, lt-leb}
@@ -9,46 +9,60 @@ use Rattle.pieces.specs.Pieces.{Put}
 use Rattle.pieces.proofs.Puts.{front, stands}
 use Rattle.rows.specs.Rows.{Checked, pass, refuse, must, onward}
 use Rattle.rows.proofs.Laws.{pass-once, test-passed, rows-passed}
-use Rattle.card.specs.Fields.{Card}
-use Rattle.contents.specs.Contents.{mostCards}
+use Rattle.version.specs.declared.Version.{Version}
+use Rattle.version.specs.Version.{versionNumber, formNumber, versionGiven}
+use Rattle.version.proofs.Sizes.{version-of-number}
+use Rattle.version.proofs.Forms.{its-form}
+use Rattle.contents.specs.Contents.{Deck, mostCards}
+use Rattle.contents.proofs.Opened.{withVersion}
 use Rattle.layout.specs.Layout.{deckOf}
-use Rattle.layout.specs.Packed.{packedCards, finishedCards}
+use Rattle.layout.specs.Packed.{packedCards, packedDeck, finishedDeck}
 use Rattle.layout.specs.Written.{deckFor, lengthFor, bufferAfter}
 
 -- more than 256 cards, or as many as may be
-pub too-many : (kinds fields : List ℕ) → mostCards < length kinds → finishedCards kinds fields ≡ refuse 40
-unfolding finishedCards must
-too-many kinds fields h = rw (lt-leb (length kinds) mostCards h) refl
+pub too-many : (v : Version) (kinds fields : List ℕ) → mostCards < length kinds → packedDeck v kinds fields ≡ refuse 40
+unfolding packedDeck must
+too-many v kinds fields h = rw (lt-leb (length kinds) mostCards h) refl
 
-pub few-enough : (kinds fields : List ℕ) → length kinds ≤ mostCards → finishedCards kinds fields ≡ packedCards kinds fields
-unfolding finishedCards must
-few-enough kinds fields h = rw (le-leb (length kinds) mostCards h) refl
+pub few-enough : (v : Version) (kinds fields : List ℕ) → length kinds ≤ mostCards → packedDeck v kinds fields ≡ withVersion v (packedCards v kinds fields)
+unfolding packedDeck must
+few-enough v kinds fields h = rw (le-leb (length kinds) mostCards h) refl
 
-pub finished-means : (kinds fields : List ℕ) {cards : List Card} → finishedCards kinds fields ≡ pass cards → (length kinds ≤ mostCards) × (packedCards kinds fields ≡ pass cards)
-unfolding finishedCards
-finished-means kinds fields h =
-    let T = test-passed (leb (length kinds) mostCards) 40 (packedCards kinds fields) h in
-    (leb-true (length kinds) mostCards (T .0), T .1)
+pub packed-means : (v : Version) (kinds fields : List ℕ) {d : Deck} → packedDeck v kinds fields ≡ pass d → (length kinds ≤ mostCards) × (d .version ≡ v) × (packedCards v kinds fields ≡ pass (d .cards))
+unfolding packedDeck
+packed-means v kinds fields {d} h =
+    let T = test-passed (leb (length kinds) mostCards) 40 (withVersion v (packedCards v kinds fields)) h in
+    let C = rows-passed (packedCards v kinds fields) (λ cards. pass (record { version = v; cards = cards })) (T .1) in
+    let is : _≡_ {A = Deck} (record { version = v; cards = C .0 }) d = pass-once (C .2) in
+    (leb-true (length kinds) mostCards (T .0), sym (ap (λ (e : Deck). e .version) is), C .1 ∙ ap (λ (e : Deck). pass (e .cards)) is)
+
+-- in a version, with what has its form, no test of these two refuses
+pub given-in : (v : Version) → versionGiven (versionNumber v) (formNumber v) ≡ pass v
+given-in v = its-form (versionNumber v) (formNumber v) v (version-of-number v) refl
+
+pub finished-in : (v : Version) (kinds fields : List ℕ) → finishedDeck (versionNumber v) (formNumber v) kinds fields ≡ packedDeck v kinds fields
+unfolding finishedDeck onward
+finished-in v kinds fields = rw (given-in v) refl
 
 -- an answer, and the buffer with it
-abbrev pub Gives : Checked (List Card) → (buffer : List ℕ) → Checked ℕ → (after : List ℕ) → Type 0
+abbrev pub Gives : Checked Deck → (buffer : List ℕ) → Checked ℕ → (after : List ℕ) → Type 0
 Gives m buffer answer after = (answer ≡ lengthFor m (length buffer)) × (after ≡ bufferAfter m buffer)
 
-pub refused-writes : {m : Checked (List Card)} {k : ℕ} (buffer : List ℕ) → m ≡ refuse k → Gives m buffer (refuse k) buffer
+pub refused-writes : {m : Checked Deck} {k : ℕ} (buffer : List ℕ) → m ≡ refuse k → Gives m buffer (refuse k) buffer
 unfolding lengthFor bufferAfter deckFor onward
 refused-writes buffer e = rw e (refl, refl)
 
-pub no-room-writes : {m : Checked (List Card)} {cards : List Card} (buffer : List ℕ) → m ≡ pass cards → length buffer < length (deckOf cards) → Gives m buffer (refuse 41) buffer
+pub no-room-writes : {m : Checked Deck} {d : Deck} (buffer : List ℕ) → m ≡ pass d → length buffer < length (deckOf d) → Gives m buffer (refuse 41) buffer
 unfolding lengthFor bufferAfter deckFor onward must
-no-room-writes {cards = cards} buffer e h = rw (e, lt-leb (length (deckOf cards)) (length buffer) h) (refl, refl)
+no-room-writes {d = d} buffer e h = rw (e, lt-leb (length (deckOf d)) (length buffer) h) (refl, refl)
 
-pub deck-writes : {m : Checked (List Card)} {cards : List Card} {buffer after : List ℕ} {end : ℕ} → m ≡ pass cards → length (deckOf cards) ≤ length buffer → Put buffer 0 (deckOf cards) after end
+pub deck-writes : {m : Checked Deck} {d : Deck} {buffer after : List ℕ} {end : ℕ} → m ≡ pass d → length (deckOf d) ≤ length buffer → Put buffer 0 (deckOf d) after end
     → Gives m buffer (pass end) after
 unfolding lengthFor bufferAfter deckFor onward must
-deck-writes {cards = cards} {buffer = buffer} e h p = rw (e, le-leb (length (deckOf cards)) (length buffer) h) (ap pass (front p h .0), stands p h)
+deck-writes {d = d} {buffer = buffer} e h p = rw (e, le-leb (length (deckOf d)) (length buffer) h) (ap pass (front p h .0), stands p h)
 
 -- a deck that is written has room
-pub has-room : (m : Checked (List Card)) (room : ℕ) (deck : List ℕ) → deckFor m room ≡ pass deck → length deck ≤ room
+pub has-room : (m : Checked Deck) (room : ℕ) (deck : List ℕ) → deckFor m room ≡ pass deck → length deck ≤ room
 unfolding deckFor
 has-room m room deck h =
     let P = rows-passed m _ h in

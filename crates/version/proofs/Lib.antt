@@ -1,4 +1,4 @@
-mod Forms
+pub mod Forms
 pub mod Sizes
 pub mod Theorems
 pub mod Fixed

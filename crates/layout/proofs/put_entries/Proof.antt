@@ -13,13 +13,13 @@ use Rattle.layout.proofs.put_entries.Statement.{statement}
 use Rattle.layout.proofs.put_entries.Tie as tie
 
 abbrev Inv-loop : tie.InvT-loop
-Inv-loop kinds out₀ start offset₀ end₀ i₀ out offset end i = Entering kinds out₀ start out offset end i
+Inv-loop version kinds out₀ start offset₀ end₀ i₀ out offset end i = Entering version kinds out₀ start out offset end i
 
 abbrev μ-loop : tie.MeasureT-loop
-μ-loop kinds out₀ start offset₀ end₀ i₀ out offset end i = length kinds - i
+μ-loop version kinds out₀ start offset₀ end₀ i₀ out offset end i = length kinds - i
 
 loop-holds : tie.Need-loop-holds Inv-loop μ-loop
-loop-holds c = begin (c .before .before .args .kinds .now) (c .before .before .args .out .now) (c .before .before .args .start) (c .before .before .pre .1)
+loop-holds c = begin (c .before .before .args .version) (c .before .before .args .kinds .now) (c .before .before .args .out .now) (c .before .before .args .start) (c .before .before .pre .1)
 
 same-length : tie.Need-same-length Inv-loop μ-loop
 same-length c = c .before .before .before .before .before .loop .inv .pieces .as-long
@@ -35,7 +35,7 @@ known : (c : tie.After-size Inv-loop μ-loop) → kindOf (getD (c .before .befor
 known c = sym (c .before .before .before .before .before .before .before .before .kind-of .ensures) ∙ ap named (c .before .before .before .before .before .before .kind .given .1)
 
 add-offset-2 : tie.Need-add-offset-2 Inv-loop μ-loop
-add-offset-2 c = omega (arith, c .before .before .before .before .before .before .before .before .before .before .before .loop .inv .most, c .size .ensures, size-most (c .before .before .before .before .before .before .kind .given .0 .0))
+add-offset-2 c = omega (arith, c .before .before .before .before .before .before .before .before .before .before .before .loop .inv .most, c .size .ensures, size-most (c .before .before .before .before .before .before .before .before .before .before .before .before .before .before .args .version) (c .before .before .before .before .before .before .kind .given .0 .0))
 
 loop-again : tie.Need-loop-again Inv-loop μ-loop
 loop-again c = rw (c .size .ensures) (turn (c .before .before .before .before .before .before .before .before .before .before .before .loop .inv) (c .before .before .before .before .before .before .kind .given .0 .0) (omega arith) (known c) (c .before .before .before .put-entry .ensures))

@@ -9,7 +9,7 @@ use Rattle.layout.proofs.put_entry.Statement.{statement}
 use Rattle.layout.proofs.put_entry.Tie as tie
 
 cast-put-half-2 : tie.Need-cast-put-half-2
-cast-put-half-2 c = omega (arith, c .size .ensures, size-most (c .before .before .before .before .before .before .before .before .before .before .before .before .args .kind))
+cast-put-half-2 c = omega (arith, c .size .ensures, size-most (c .before .before .before .before .before .before .before .before .before .before .before .before .args .version) (c .before .before .before .before .before .before .before .before .before .before .before .before .args .kind))
 
 returns : tie.Need-returns
 returns c =
