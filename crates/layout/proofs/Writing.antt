@@ -61,6 +61,16 @@ pub deck-writes : {m : Checked Deck} {d : Deck} {buffer after : List ℕ} {end :
 unfolding lengthFor bufferAfter deckFor onward must
 deck-writes {d = d} {buffer = buffer} e h p = rw (e, le-leb (length (deckOf d)) (length buffer) h) (ap pass (front p h .0), stands p h)
 
+-- where no version is given nothing is written, and else what goes into a deck of that version
+pub no-version-writes : (number form : ℕ) (rest : Version → Checked Deck) (buffer : List ℕ) → versionGiven number form ≡ refuse 42 → Gives (onward (versionGiven number form) rest) buffer (refuse 42) buffer
+unfolding onward
+no-version-writes number form rest buffer e = refused-writes buffer (rw e refl)
+
+pub version-writes : (number form : ℕ) (rest : Version → Checked Deck) (buffer : List ℕ) {after : List ℕ} {answer : Checked ℕ} {v : Version} → versionGiven number form ≡ pass v → Gives (rest v) buffer answer after
+    → Gives (onward (versionGiven number form) rest) buffer answer after
+unfolding onward
+version-writes number form rest buffer e g = rw e g
+
 -- a deck that is written has room
 pub has-room : (m : Checked Deck) (room : ℕ) (deck : List ℕ) → deckFor m room ≡ pass deck → length deck ≤ room
 unfolding deckFor

@@ -12,6 +12,7 @@ use Rattle.pieces.proofs.Puts.{renamed}
 use Rattle.pieces.proofs.InPieces.{InPieces, nothing-yet, one-on, all-there}
 use Rattle.rows.specs.Rows.{pass, refuse}
 use Rattle.rows.proofs.Laws.{pass-once}
+use Rattle.version.specs.declared.Version.{Version}
 use Rattle.card.specs.declared.Kind.{Kind}
 use Rattle.card.specs.Fields.{Card, kindOf, packedSize}
 use Rattle.card.specs.Made.{bodyFrom}
@@ -21,24 +22,24 @@ use Rattle.layout.specs.Layout.{bodiesOf}
 use Rattle.layout.specs.Packed.{packedCards}
 use Rattle.layout.proofs.Packed.{OneMore, one-more, as-many}
 
-pub record Laying (kinds fields before : List ℕ) (start : ℕ) (buffer : List ℕ) (at end i : ℕ) : Type 0 where
+pub record Laying (v : Version) (kinds fields before : List ℕ) (start : ℕ) (buffer : List ℕ) (at end i : ℕ) : Type 0 where
   all : List Card
-  cards-are : packedCards kinds fields ≡ pass all
+  cards-are : packedCards v kinds fields ≡ pass all
   rest : List Card
-  left : packedCards (drop i kinds) (drop at fields) ≡ pass rest
+  left : packedCards v (drop i kinds) (drop at fields) ≡ pass rest
   pub pieces : InPieces before start (bodiesOf all) buffer end (bodiesOf rest)
 
-pub begin : (kinds fields buffer : List ℕ) (start : ℕ) → Passes (packedCards kinds fields) → start ≤ length buffer → Laying kinds fields buffer start buffer 0 start 0
-begin kinds fields buffer start p h =
-    let cards = come-to-cards (packedCards kinds fields) p in
+pub begin : (v : Version) (kinds fields buffer : List ℕ) (start : ℕ) → Passes (packedCards v kinds fields) → start ≤ length buffer → Laying v kinds fields buffer start buffer 0 start 0
+begin v kinds fields buffer start p h =
+    let cards = come-to-cards (packedCards v kinds fields) p in
     record { all = cards .0; cards-are = cards .1; rest = cards .0; left = cards .1; pieces = nothing-yet (bodiesOf (cards .0)) h }
 
-module _ {kinds fields before : List ℕ} {start : ℕ} {buffer : List ℕ} {at end i : ℕ} (s : Laying kinds fields before start buffer at end i) where
+module _ {v : Version} {kinds fields before : List ℕ} {start : ℕ} {buffer : List ℕ} {at end i : ℕ} (s : Laying v kinds fields before start buffer at end i) where
   -- while a kind is left, so is a card
-  next : i < length kinds → OneMore (getD kinds i 0) (drop (i + 1) kinds) (drop at fields) (s .rest)
+  next : i < length kinds → OneMore v (getD kinds i 0) (drop (i + 1) kinds) (drop at fields) (s .rest)
   next h =
       let kind-first : drop i kinds ≡ getD kinds i 0 ∷ drop (i + 1) kinds = drop-cons kinds i 0 h ∙ ap (λ (n : ℕ). getD kinds i 0 ∷ drop n kinds) (sym (add-one i)) in
-      one-more (getD kinds i 0) (drop (i + 1) kinds) (drop at fields) (s .rest) (ap (λ (l : List ℕ). packedCards l (drop at fields)) (sym kind-first) ∙ s .left)
+      one-more v (getD kinds i 0) (drop (i + 1) kinds) (drop at fields) (s .rest) (ap (λ (l : List ℕ). packedCards v l (drop at fields)) (sym kind-first) ∙ s .left)
 
   pub never-unknown : (k : ℕ) → i < length kinds → kindOf (getD kinds i 0) ≡ refuse k → ⊥
   never-unknown k h r =
@@ -49,32 +50,32 @@ module _ {kinds fields before : List ℕ} {start : ℕ} {buffer : List ℕ} {at 
   same-kind kind h r = pass-once (sym (next h .known) ∙ r)
 
   -- its fields are inside
-  pub room : (kind : Kind) → i < length kinds → kindOf (getD kinds i 0) ≡ pass kind → at + packedSize kind ≤ length fields
+  pub room : (kind : Kind) → i < length kinds → kindOf (getD kinds i 0) ≡ pass kind → at + packedSize v kind ≤ length fields
   room kind h r = omega (arith, rw (same-kind kind h r) at (next h .room), length-drop at fields)
 
-  bodies-are : (kind : Kind) (h : i < length kinds) (r : kindOf (getD kinds i 0) ≡ pass kind) → bodyFrom kind (take (packedSize kind) (drop at fields)) ++ bodiesOf (next h .rest) ≡ bodiesOf (s .rest)
+  bodies-are : (kind : Kind) (h : i < length kinds) (r : kindOf (getD kinds i 0) ≡ pass kind) → bodyFrom kind (take (packedSize v kind) (drop at fields)) ++ bodiesOf (next h .rest) ≡ bodiesOf (s .rest)
   unfolding bodiesOf
   bodies-are kind h r =
-      ap (λ (k : Kind). bodyFrom k (take (packedSize k) (drop at fields)) ++ bodiesOf (next h .rest)) (sym (same-kind kind h r)) ∙ sym (ap bodiesOf (next h .cards-is))
+      ap (λ (k : Kind). bodyFrom k (take (packedSize v k) (drop at fields)) ++ bodiesOf (next h .rest)) (sym (same-kind kind h r)) ∙ sym (ap bodiesOf (next h .cards-is))
 
   -- a body is written
-  pub turn : (kind : Kind) {after : List ℕ} {stop : ℕ} → i < length kinds → kindOf (getD kinds i 0) ≡ pass kind → Put buffer end (bodyFrom kind (take (packedSize kind) (drop at fields))) after stop
-      → Laying kinds fields before start after (at + packedSize kind) stop (i + 1)
+  pub turn : (kind : Kind) {after : List ℕ} {stop : ℕ} → i < length kinds → kindOf (getD kinds i 0) ≡ pass kind → Put buffer end (bodyFrom kind (take (packedSize v kind) (drop at fields))) after stop
+      → Laying v kinds fields before start after (at + packedSize v kind) stop (i + 1)
   turn kind h r p =
       let n = next h in
-      let others : packedCards (drop (i + 1) kinds) (drop (packedSize kind) (drop at fields)) ≡ pass (n .rest) = rw (same-kind kind h r) at (n .others) in
+      let others : packedCards v (drop (i + 1) kinds) (drop (packedSize v kind) (drop at fields)) ≡ pass (n .rest) = rw (same-kind kind h r) at (n .others) in
       record {
         all = s .all;
         cards-are = s .cards-are;
         rest = n .rest;
-        left = ap (packedCards (drop (i + 1) kinds)) (sym (drop-drop (packedSize kind) at fields)) ∙ others;
+        left = ap (packedCards v (drop (i + 1) kinds)) (sym (drop-drop (packedSize v kind) at fields)) ∙ others;
         pieces = one-on (s .pieces) (bodies-are kind h r) p;
       }
 
   -- after the last one
-  pub laid : length kinds ≤ i → (cards : List Card) → packedCards kinds fields ≡ pass cards → Put before start (bodiesOf cards) buffer end
+  pub laid : length kinds ≤ i → (cards : List Card) → packedCards v kinds fields ≡ pass cards → Put before start (bodiesOf cards) buffer end
   unfolding bodiesOf
   laid h cards e =
-      let ended : s .rest ≡ [] = drop-of-length-le (s .rest) {i = 0} (omega (arith, as-many (drop i kinds) (drop at fields) (s .rest) (s .left) ∙ ap length (drop-of-length-le kinds h))) in
+      let ended : s .rest ≡ [] = drop-of-length-le (s .rest) {i = 0} (omega (arith, as-many v (drop i kinds) (drop at fields) (s .rest) (s .left) ∙ ap length (drop-of-length-le kinds h))) in
       let same : s .all ≡ cards = pass-once (sym (s .cards-are) ∙ e) in
       renamed (ap bodiesOf same) (all-there (s .pieces) (ap bodiesOf ended))

@@ -14,13 +14,13 @@ use Rattle.writer.proofs.bodies.Statement.{statement}
 use Rattle.writer.proofs.bodies.Tie as tie
 
 abbrev Inv-loop : tie.InvT-loop
-Inv-loop kinds fields buffer₀ start at₀ end₀ i₀ buffer at end i = Laying kinds fields buffer₀ start buffer at end i
+Inv-loop version kinds fields buffer₀ start at₀ end₀ i₀ buffer at end i = Laying version kinds fields buffer₀ start buffer at end i
 
 abbrev μ-loop : tie.MeasureT-loop
-μ-loop kinds fields buffer₀ start at₀ end₀ i₀ buffer at end i = length kinds - i
+μ-loop version kinds fields buffer₀ start at₀ end₀ i₀ buffer at end i = length kinds - i
 
 loop-holds : tie.Need-loop-holds Inv-loop μ-loop
-loop-holds c = begin (c .before .before .before .args .kinds .now) (c .before .before .before .args .fields .now) (c .before .before .before .args .buffer .now) (c .before .before .before .args .start) (c .before .before .before .pre .0) (c .before .before .before .pre .1)
+loop-holds c = begin (c .before .before .before .args .version) (c .before .before .before .args .kinds .now) (c .before .before .before .args .fields .now) (c .before .before .before .args .buffer .now) (c .before .before .before .args .start) (c .before .before .before .pre .0) (c .before .before .before .pre .1)
 
 same-length : tie.Need-same-length Inv-loop μ-loop
 same-length c = c .before .before .before .before .before .loop .inv .pieces .as-long

@@ -13,13 +13,13 @@ use Rattle.writer.proofs.measured.Statement.{statement}
 use Rattle.writer.proofs.measured.Tie as tie
 
 abbrev Inv-loop : tie.InvT-loop
-Inv-loop kinds fields i₀ at₀ end₀ i at end = Measuring kinds fields i at end
+Inv-loop version kinds fields i₀ at₀ end₀ i at end = Measuring version kinds fields i at end
 
 abbrev μ-loop : tie.MeasureT-loop
-μ-loop kinds fields i₀ at₀ end₀ i at end = length kinds - i
+μ-loop version kinds fields i₀ at₀ end₀ i at end = length kinds - i
 
 loop-holds : tie.Need-loop-holds Inv-loop μ-loop
-loop-holds c = set-out (c .before .before .args .kinds .now) (c .before .before .args .fields .now)
+loop-holds c = set-out (c .before .before .args .version) (c .before .before .args .kinds .now) (c .before .before .args .fields .now) (c .before .before .pre)
 
 returns : tie.Need-returns Inv-loop μ-loop
 returns c = no-kind (c .before .before .before .before .before .loop .inv) 34 (omega arith) (sym (c .before .before .kind-of .ensures) ∙ ap named (c .enum-told .given .1))
@@ -31,14 +31,14 @@ known c = sym (c .before .before .before .before .kind-of .ensures) ∙ ap named
 returns-2 : tie.Need-returns-2 Inv-loop μ-loop
 returns-2 c = ends-inside (c .before .before .before .before .before .before .before .before .loop .inv) (c .before .before .before .kind .given .0 .0) (omega arith) (known (c .before)) (omega (arith, c .before .packed .ensures))
 
-room : (c : tie.Else1 Inv-loop μ-loop) → packedSize (c .before .before .before .kind .given .0 .0) ≤ length (c .before .before .before .before .before .before .before .before .before .before .before .args .fields .now) - c .before .before .before .before .before .before .before .before .loop .at
+room : (c : tie.Else1 Inv-loop μ-loop) → packedSize (c .before .before .before .before .before .before .before .before .before .before .before .args .version) (c .before .before .before .kind .given .0 .0) ≤ length (c .before .before .before .before .before .before .before .before .before .before .before .args .fields .now) - c .before .before .before .before .before .before .before .before .loop .at
 room c = omega (arith, c .before .packed .ensures)
 
 loop-again : tie.Need-loop-again Inv-loop μ-loop
 loop-again c = rw (c .before .before .packed .ensures, c .size .ensures) (walk-on (c .before .before .before .before .before .before .before .before .before .loop .inv) (c .before .before .before .before .kind .given .0 .0) (omega arith) (known (c .before .before)) (room (c .before)))
 
 add-end-2 : tie.Need-add-end-2 Inv-loop μ-loop
-add-end-2 c = omega (arith, c .before .before .before .before .before .before .before .before .before .loop .inv .most, c .size .ensures, size-most (c .before .before .before .before .kind .given .0 .0))
+add-end-2 c = omega (arith, c .before .before .before .before .before .before .before .before .before .loop .inv .most, c .size .ensures, size-most (c .before .before .before .before .before .before .before .before .before .before .before .before .args .version) (c .before .before .before .before .kind .given .0 .0))
 
 returns-3 : tie.Need-returns-3 Inv-loop μ-loop
 returns-3 c = some-over (c .before .before .loop .inv) (omega arith) (c .if2 .taken)
