@@ -14,7 +14,8 @@ ghost use Rattle.rows.specs.Rows.{pass};
 ghost use Rattle.pieces.specs.Pieces.{Put};
 ghost use Rattle.card.specs.Fields.{sizeOf};
 ghost use Rattle.card.specs.Made.{restFrom, fieldsIn};
-ghost use Rattle.contents.specs.Contents.{Deck, countOf, deckIn, countedIn};
+ghost use Rattle.version.specs.declared.Version.{Version};
+ghost use Rattle.contents.specs.Contents.{Deck, deckIn, countedIn};
 ghost use Rattle.apart.specs.Apart.{kindsTaken, fieldsTaken, apartOf, sizesOf, withTaken, said};
 
 // The version of a deck, how many cards it has and the bytes that their fields take, or why it is refused.
@@ -74,7 +75,7 @@ fn summed(deck: &[u8], version: Version, count: u32) -> usize
 
 // The number of each kind, in the card's place.
 fn list_kinds(deck: &[u8], count: u32, kinds: &mut [u32])
-    requires { ⌜ (countOf (now deck) ≡ count) × (count ≤ length (now kinds)) ⌝ }
+    requires { ⌜ ((v : Version) × (countedIn (now deck) ≡ pass (v, count))) × (count ≤ length (now kinds)) ⌝ }
     ensures { λ _. ⌜ ((d : Deck) → deckIn (now (deck .entry)) ≡ pass d → Put (now (kinds .entry)) 0 (kindsTaken d) (now (kinds .exit)) count) ⌝ }
 {
     let mut i = 0;

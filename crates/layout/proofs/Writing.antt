@@ -1,5 +1,5 @@
 -- What writing cards into a buffer comes to: a refusal, which leaves the buffer as it was, or the deck at its front.
-use mathlib.Core.Path.{_≡_, refl, sym, ap, _∙_}
+use mathlib.Core.Path.{_≡_, refl, sym, ap, subst, _∙_}
 use mathlib.Core.List.{List}
 use Prim.Native.Nat.{ℕ, _≤_, _<_}
 use borrow.Author.Tests.{leb-true, le-leb, lt-leb}
@@ -35,6 +35,13 @@ packed-means v kinds fields {d} h =
     let C = rows-passed (packedCards v kinds fields) (λ cards. pass (record { version = v; cards = cards })) (T .1) in
     let is : _≡_ {A = Deck} (record { version = v; cards = C .0 }) d = pass-once (C .2) in
     (leb-true (length kinds) mostCards (T .0), sym (ap (λ (e : Deck). e .version) is), C .1 ∙ ap (λ (e : Deck). pass (e .cards)) is)
+
+pub finished-means : (number form : ℕ) (kinds fields : List ℕ) {d : Deck} → finishedDeck number form kinds fields ≡ pass d → (length kinds ≤ mostCards) × (versionGiven number form ≡ pass (d .version)) × (packedCards (d .version) kinds fields ≡ pass (d .cards))
+unfolding finishedDeck
+finished-means number form kinds fields {d} h =
+    let R = rows-passed (versionGiven number form) (λ v. packedDeck v kinds fields) h in
+    let m = packed-means (R .0) kinds fields (R .2) in
+    (m .0, R .1 ∙ ap pass (sym (m .1)), subst (λ (v : Version). packedCards v kinds fields ≡ pass (d .cards)) (sym (m .1)) (m .2))
 
 -- in a version, with what has its form, no test of these two refuses
 pub given-in : (v : Version) → versionGiven (versionNumber v) (formNumber v) ≡ pass v

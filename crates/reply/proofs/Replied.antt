@@ -10,8 +10,7 @@ use Rattle.pieces.specs.Pieces.{putIn, endIn}
 use Rattle.pieces.proofs.Puts.{InFront, front, inside, wrote}
 use Rattle.text.proofs.Length.{length-count}
 use Rattle.rows.specs.Rows.{Checked, pass, refuse, onward}
-use Rattle.card.specs.Fields.{Card}
-use Rattle.contents.specs.Contents.{largestDeck}
+use Rattle.contents.specs.Contents.{Deck, largestDeck}
 use Rattle.layout.specs.Written.{deckFor, lengthFor, withDeck, bufferAfter}
 use Rattle.layout.proofs.Writing.{has-room}
 use Rattle.reply.specs.Reply.{refusedLine, pageAfter, endAfter, replied, replyOf}
@@ -34,7 +33,7 @@ in-front (refuse k) page room h =
     let within = inside p in
     record { within = within; long = sym (length-take-le (endIn page 0 line) (putIn page 0 line) within); is = f .1 }
 
-pub reply-stands : (m : Checked (List Card)) (page : List ℕ) {answer : Checked ℕ} {written after : List ℕ} {end : ℕ} → largestDeck ≡ length page
+pub reply-stands : (m : Checked Deck) (page : List ℕ) {answer : Checked ℕ} {written after : List ℕ} {end : ℕ} → largestDeck ≡ length page
     → answer ≡ lengthFor m (length page) → written ≡ bufferAfter m page → end ≡ endAfter answer written → after ≡ pageAfter answer written → InFront (replyOf m) after end
 unfolding lengthFor bufferAfter
 reply-stands m page e a w n p = rw (n, p, a, w, e) (in-front (deckFor m (length page)) page (λ deck d. has-room m (length page) deck d) (omega (arith, e)))

@@ -16,16 +16,16 @@ use Rattle.apart.proofs.put_all.Statement.{statement}
 use Rattle.apart.proofs.put_all.Tie as tie
 
 abbrev Inv-loop : tie.InvT-loop
-Inv-loop deck count fields₀ at₀ end₀ i₀ fields at end i = Putting deck count fields₀ fields at end i
+Inv-loop deck version count fields₀ at₀ end₀ i₀ fields at end i = Putting version deck count fields₀ fields at end i
 
 abbrev μ-loop : tie.MeasureT-loop
-μ-loop deck count fields₀ at₀ end₀ i₀ fields at end i = count - i
+μ-loop deck version count fields₀ at₀ end₀ i₀ fields at end i = count - i
 
 loop-holds : tie.Need-loop-holds Inv-loop μ-loop
-loop-holds c = none-put (c .before .before .args .deck .now) (c .before .before .args .count) (c .before .before .args .fields .now) (c .before .before .pre)
+loop-holds c = none-put (c .before .before .args .version) (c .before .before .args .deck .now) (c .before .before .args .count) (c .before .before .args .fields .now) (c .before .before .pre)
 
 returns : tie.Need-returns Inv-loop μ-loop
-returns c = λ cards e. absurd (never-unknown (c .before .before .before .before .loop .inv .walk) 34 (omega arith) (sym (c .before .before .kind-at .ensures) ∙ ap named (c .enum-told .given .1)))
+returns c = λ d e. absurd (never-unknown (c .before .before .before .before .loop .inv .walk) 34 (omega arith) (sym (c .before .before .kind-at .ensures) ∙ ap named (c .enum-told .given .1)))
 
 -- the kind that is named, and that its body is inside
 known : (c : tie.After-size Inv-loop μ-loop) → kindAt (c .before .before .before .before .before .before .before .before .before .args .deck .now) (c .before .before .before .before .before .before .loop .i) ≡ pass (c .before .before .kind .given .0 .0)
@@ -35,7 +35,7 @@ ends : (c : tie.After-size Inv-loop μ-loop) → c .before .before .before .befo
 ends c = rw (c .size .ensures) (inside (c .before .before .before .before .before .before .loop .inv .walk) (c .before .before .kind .given .0 .0) (omega arith) (known c))
 
 -- the part that is its body
-part : (c : tie.After-size Inv-loop μ-loop) → c .before .before .before .before .before .before .loop .at + c .size .result - c .before .before .before .before .before .before .loop .at ≡ sizeOf (c .before .before .kind .given .0 .0)
+part : (c : tie.After-size Inv-loop μ-loop) → c .before .before .before .before .before .before .loop .at + c .size .result - c .before .before .before .before .before .before .loop .at ≡ sizeOf (c .before .before .before .before .before .before .before .before .before .args .version) (c .before .before .kind .given .0 .0)
 part c = omega (arith, c .size .ensures)
 
 put-fields-requires : tie.Need-put-fields-requires Inv-loop μ-loop
@@ -46,7 +46,7 @@ put-fields-requires c κs =
 loop-again : tie.Need-loop-again Inv-loop μ-loop
 loop-again c =
     let kind = c .before .before .before .before .before .before .before .kind .given .0 .0 in
-    let body-is = ap (λ (n : ℕ). fieldsIn kind (take n (drop (c .before .before .before .before .before .before .before .before .before .before .before .loop .at) (c .before .before .before .before .before .before .before .before .before .before .before .before .before .before .args .deck .now)))) (part (c .before .before .before .before .before)) in
+    let body-is = ap (λ (n : ℕ). fieldsIn (c .before .before .before .before .before .before .before .before .before .before .before .before .before .before .args .version) kind (take n (drop (c .before .before .before .before .before .before .before .before .before .before .before .loop .at) (c .before .before .before .before .before .before .before .before .before .before .before .before .before .before .args .deck .now)))) (part (c .before .before .before .before .before)) in
     rw (c .before .before .before .before .before .size .ensures) (put-on (c .before .before .before .before .before .before .before .before .before .before .before .loop .inv) kind (omega arith) (known (c .before .before .before .before .before)) (renamed body-is (c .before .before .put-fields .ensures)))
 
 returns-2 : tie.Need-returns-2 Inv-loop μ-loop

@@ -12,19 +12,19 @@ use Rattle.apart.proofs.summed.Statement.{statement}
 use Rattle.apart.proofs.summed.Tie as tie
 
 abbrev Inv-loop : tie.InvT-loop
-Inv-loop deck count sum₀ i₀ sum i = Summing deck count i sum
+Inv-loop deck version count sum₀ i₀ sum i = Summing version deck count i sum
 
 abbrev μ-loop : tie.MeasureT-loop
-μ-loop deck count sum₀ i₀ sum i = count - i
+μ-loop deck version count sum₀ i₀ sum i = count - i
 
 loop-holds : tie.Need-loop-holds Inv-loop μ-loop
-loop-holds c = none-summed (c .before .args .deck .now) (c .before .args .count) (c .before .pre)
+loop-holds c = none-summed (c .before .args .version) (c .before .args .deck .now) (c .before .args .count) (c .before .pre)
 
 returns : tie.Need-returns Inv-loop μ-loop
-returns c = λ cards e. absurd (never-unknown (c .before .before .before .before .loop .inv .walk) 34 (omega arith) (sym (c .before .before .kind-at .ensures) ∙ ap named (c .enum-told .given .1)))
+returns c = λ d e. absurd (never-unknown (c .before .before .before .before .loop .inv .walk) 34 (omega arith) (sym (c .before .before .kind-at .ensures) ∙ ap named (c .enum-told .given .1)))
 
 add-sum : tie.Need-add-sum Inv-loop μ-loop
-add-sum c = omega (arith, c .before .before .before .before .before .before .loop .inv .most, c .packed .ensures, packed-most (c .before .before .kind .given .0 .0))
+add-sum c = omega (arith, c .before .before .before .before .before .before .loop .inv .most, c .packed .ensures, packed-most (c .before .before .before .before .before .before .before .before .args .version) (c .before .before .kind .given .0 .0))
 
 loop-again : tie.Need-loop-again Inv-loop μ-loop
 loop-again c = rw (c .packed .ensures) (sum-on (c .before .before .before .before .before .before .loop .inv) (c .before .before .kind .given .0 .0) (omega arith) (sym (c .before .before .before .before .kind-at .ensures) ∙ ap named (c .before .before .kind .given .1)))

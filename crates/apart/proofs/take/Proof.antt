@@ -4,9 +4,8 @@ use native.Mathlib.Omega.{arith}
 use borrow.Author.Needs.{needs}
 use lib.ListN.{length}
 use Rattle.rows.specs.Rows.{pass}
-use Rattle.layout.specs.Packed.{kindsOf, fieldsOf}
 use Rattle.layout.proofs.Packed.{length-kinds}
-use Rattle.apart.specs.Apart.{apartOf, sizesOf, said}
+use Rattle.apart.specs.Apart.{kindsTaken, fieldsTaken, apartOf, sizesOf, said}
 use Rattle.apart.proofs.Taking.{Taken, refused, taken-apart, kept, filled}
 use Rattle.apart.proofs.take.Statement.{statement}
 use Rattle.apart.proofs.take.Tie as tie
@@ -16,17 +15,17 @@ returns c =
     let from = c .before .before .before .before .before .before in
     let why = sym (ap said (c .enum-told .given .1)) ∙ c .before .before .measured .ensures in
     let none = refused (from .args .deck .now) (length (from .args .kinds .now)) (length (from .args .fields .now)) why in
-    (c .before .before .measured .ensures, (kept kindsOf (from .args .kinds .now) none, kept fieldsOf (from .args .fields .now) none))
+    (c .before .before .measured .ensures, (kept kindsTaken (from .args .kinds .now) none, kept fieldsTaken (from .args .fields .now) none))
 
 -- what was measured
-told : (c : tie.After-known-told) → pass (c .before .sizes .given .0 .0, c .before .sizes .given .0 .1 .0) ≡ sizesOf (apartOf (c .before .before .before .before .before .before .before .args .deck .now) (length (c .before .before .before .before .before .before .before .args .kinds .now)) (length (c .before .before .before .before .before .before .before .args .fields .now)))
+told : (c : tie.After-known-told) → pass (c .before .sizes .given .0 .0, c .before .sizes .given .0 .1 .0, c .before .sizes .given .0 .1 .1 .0) ≡ sizesOf (apartOf (c .before .before .before .before .before .before .before .args .deck .now) (length (c .before .before .before .before .before .before .before .args .kinds .now)) (length (c .before .before .before .before .before .before .before .args .fields .now)))
 told c = sym (ap said (c .before .sizes .given .1)) ∙ c .before .before .before .measured .ensures
 
-made : (c : tie.After-known-told) → Taken (c .before .before .before .before .before .before .before .args .deck .now) (length (c .before .before .before .before .before .before .before .args .kinds .now)) (length (c .before .before .before .before .before .before .before .args .fields .now)) (c .before .sizes .given .0 .0) (c .before .sizes .given .0 .1 .0)
+made : (c : tie.After-known-told) → Taken (c .before .before .before .before .before .before .before .args .deck .now) (length (c .before .before .before .before .before .before .before .args .kinds .now)) (length (c .before .before .before .before .before .before .before .args .fields .now)) (c .before .sizes .given .0 .0) (c .before .sizes .given .0 .1 .0) (c .before .sizes .given .0 .1 .1 .0)
 made c = taken-apart (c .before .before .before .before .before .before .before .args .deck .now) (length (c .before .before .before .before .before .before .before .args .kinds .now)) (length (c .before .before .before .before .before .before .before .args .fields .now)) (told c)
 
 list-kinds-requires : tie.Need-list-kinds-requires
-list-kinds-requires c κs = let t = made (c .before) in (t .accepted, omega (arith, t .as-many, t .fits .places-enough))
+list-kinds-requires c κs = let t = made (c .before) in ((c .before .before .sizes .given .0 .0, t .accepted), omega (arith, t .as-many, t .fits .places-enough))
 
 put-all-requires : tie.Need-put-all-requires
 put-all-requires c κs = made (c .before .before .before .before .before) .accepted
@@ -35,9 +34,9 @@ returns-2 : tie.Need-returns-2
 returns-2 c =
     let t = made (c .before .before .before .before .before .before .before .before) in
     let fits = t .fits in
-    let listed = c .before .before .before .before .before .before .list-kinds .ensures (t .cards) (fits .are) in
-    let put = c .before .before .put-all .ensures (t .cards) (fits .are) in
-    (told (c .before .before .before .before .before .before .before .before), (filled kindsOf (t .taken) listed (omega (arith, length-kinds (t .cards), fits .places-enough)), filled fieldsOf (t .taken) put (fits .room-enough)))
+    let listed = c .before .before .before .before .before .before .list-kinds .ensures (t .is) (fits .are) in
+    let put = c .before .before .put-all .ensures (t .is) (fits .are) in
+    (told (c .before .before .before .before .before .before .before .before), (filled kindsTaken (t .taken) listed (omega (arith, length-kinds (t .is .cards), fits .places-enough)), filled fieldsTaken (t .taken) put (fits .room-enough)))
 
 pub take-spec : {M : Type 1} → statement M
 take-spec =
