@@ -91,7 +91,7 @@ body-back k given rest g = ap₂ (bodyOf k) (take-at given rest problemSize g) (
 
 -- ---- the card that a problem's bytes, those of object and epoch, and an answer make
 
-answer-length : (said : conic.Said) → length (answerFor said) ≡ ownSize (kindFor said)
+pub answer-length : (said : conic.Said) → length (answerFor said) ≡ ownSize (kindFor said)
 unfolding answerSize ownSize
 answer-length (answer.solved x n state) = length-numbers (solvedNumbers x state)
 answer-length (answer.refused k n) = length-bytes 4 k

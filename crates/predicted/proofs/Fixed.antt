@@ -7,4 +7,4 @@ use Rattle.predicted.proofs.put.Reads as put
 use Rattle.predicted.proofs.put.Kinds as put-kinds
 
 pub put-fixes : Fixes 2 put-kinds.ps put-kinds.r put.Learnt
-put-fixes κs a x y v w p q = (one-answer said-once x y (p .0) (q .0), ap (λ l. (tt, (l, (tt, tt)))) (one-result (p .1) (q .1)))
+put-fixes κs a x y v w p q = (one-answer said-once x y (p .0) (q .0), ap (λ l. (tt, (tt, (l, (tt, tt))))) (one-result (p .1) (q .1)))

@@ -7,7 +7,7 @@ use Rattle.search.specs.declared.Bracket.{Bracket}
 use Rattle.arc.specs.declared.Scaled.{Scaled}
 use Rattle.arc.proofs.Departing.{velocity-refuses}
 use Rattle.arc_entry.proofs.Refusals.{Eight, entry-refuses}
-use Rattle.card.specs.Fields.{wayOf, transferOf, zOf}
+use Rattle.card.specs.Fields.{Parts, wayOf, transferOf, zOf}
 use Rattle.compared.proofs.Answered.{answered-refuses}
 use Rattle.transfer_verdict.specs.TransferVerdict.{sameVelocity, atZ, transferCard}
 
@@ -16,14 +16,14 @@ module _ {P : ℕ → Type 0} (e : Eight P) (p20 : P 20) (p21 : P 21) (p22 : P 2
   unfolding wayOf
   way-refuses n = cond-refuses (eqb n 0) _ _ passes (cond-refuses (eqb n 1) _ _ passes (refuses p23))
 
-  asked-refuses : (body : List ℕ) → Refuses P (transferOf body)
+  asked-refuses : (question : List ℕ) → Refuses P (transferOf question)
   unfolding transferOf
-  asked-refuses body = onward-refuses _ _ (way-refuses _) (λ w. passes)
+  asked-refuses question = onward-refuses _ _ (way-refuses _) (λ w. passes)
 
-  at-z-refuses : (body : List ℕ) (o : Scaled) (b : Bracket) → Refuses P (atZ body o b)
+  at-z-refuses : (answer : List ℕ) (o : Scaled) (b : Bracket) → Refuses P (atZ answer o b)
   unfolding atZ
-  at-z-refuses body o b = answered-refuses _ (o .t) _ (sameVelocity body) b (zOf body) (o .f4) p20 (e .p6) p21 p22 (velocity-refuses (e .p6) o)
+  at-z-refuses answer o b = answered-refuses _ (o .t) _ (sameVelocity answer) b (zOf answer) (o .f4) p20 (e .p6) p21 p22 (velocity-refuses (e .p6) o)
 
-  pub transfer-refuses : (body : List ℕ) → Refuses P (transferCard body)
+  pub transfer-refuses : (card : Parts) → Refuses P (transferCard card)
   unfolding transferCard
-  transfer-refuses body = onward-refuses _ _ (asked-refuses body) (λ q. onward-refuses _ _ (entry-refuses e q) (λ s. at-z-refuses body (s .0) (s .1)))
+  transfer-refuses card = onward-refuses _ _ (asked-refuses (card .question)) (λ q. onward-refuses _ _ (entry-refuses e q) (λ s. at-z-refuses (card .answer) (s .0) (s .1)))

@@ -5,4 +5,6 @@ pub mod Worked
 pub mod Accepted
 pub mod Made
 pub mod Numbers
+pub mod Tagged
+pub mod Earlier
 pub mod Fixed

@@ -22,7 +22,7 @@ use Rattle.entry.proofs.Refusals.{Numbered, NamesFirst, first-refuses}
 use Rattle.kepler.specs.Kepler.{keplerOf}
 use Rattle.kepler.proofs.Laws.{refusal-numbered, names-first, first-named}
 use Rattle.card.specs.declared.Kind.the-variants as kind
-use Rattle.card.specs.Fields.{problemOf, spareOf, refusalOf, lastSpareOf}
+use Rattle.card.specs.Fields.{Parts, problemOf, spareOf, refusalOf, lastSpareOf}
 use Rattle.ruling.specs.Said.{rejected, numberIn}
 use Rattle.compared.specs.Said.{asRefused}
 use Rattle.verdict.specs.Verdict.{isRefusedAs, solvedCard, verdictOn}
@@ -71,29 +71,29 @@ own-number k other (answer.refusedWithBracket why n lo hi) = own-meaning why k o
 
 -- ---- the cards
 
-module _ (body : List ℕ) where
-  accepted : spareOf body ≡ 0 → lastSpareOf body ≡ 0 → isRefusedAs (keplerOf (problemOf body)) (refusalOf body) ≡ true → numberIn (verdictOn kind.Refused body) ≡ 0
+module _ (card : Parts) where
+  accepted : spareOf (card .question) ≡ 0 → lastSpareOf (card .answer) ≡ 0 → isRefusedAs (keplerOf (problemOf (card .question))) (refusalOf (card .answer)) ≡ true → numberIn (verdictOn kind.Refused card) ≡ 0
   unfolding verdictOn
-  accepted s l given = ap (λ (c : Checked (Unit {0})). numberIn (asRefused c)) (refused-tests body .1 (s, l, given))
+  accepted s l given = ap (λ (c : Checked (Unit {0})). numberIn (asRefused c)) (refused-tests card .1 (s, l, given))
 
-  pub own-exactly : spareOf body ≡ 0 → lastSpareOf body ≡ 0 → (refusalOf body ≡ 1 → ⊥) → (numberIn (verdictOn kind.Refused body) ≡ 0) ↔ RefusesWith (refusalOf body) (keplerOf (problemOf body))
+  pub own-exactly : spareOf (card .question) ≡ 0 → lastSpareOf (card .answer) ≡ 0 → (refusalOf (card .answer) ≡ 1 → ⊥) → (numberIn (verdictOn kind.Refused card) ≡ 0) ↔ RefusesWith (refusalOf (card .answer)) (keplerOf (problemOf (card .question)))
   own-exactly s l other =
-      let own = own-number (refusalOf body) other (keplerOf (problemOf body)) in
-      (λ z. own .0 (refused-means body z .2), λ given. accepted s l (own .1 given))
+      let own = own-number (refusalOf (card .answer)) other (keplerOf (problemOf (card .question))) in
+      (λ z. own .0 (refused-means card z .2), λ given. accepted s l (own .1 given))
 
-  pub before-exactly : spareOf body ≡ 0 → lastSpareOf body ≡ 0 → refusalOf body ≡ 1 → (numberIn (verdictOn kind.Refused body) ≡ 0) ↔ ((place : ℕ) × (place < inputs) × (keplerOf (problemOf body) ≡ answer.refused (inputNumber place) 0))
+  pub before-exactly : spareOf (card .question) ≡ 0 → lastSpareOf (card .answer) ≡ 0 → refusalOf (card .answer) ≡ 1 → (numberIn (verdictOn kind.Refused card) ≡ 0) ↔ ((place : ℕ) × (place < inputs) × (keplerOf (problemOf (card .question)) ≡ answer.refused (inputNumber place) 0))
   before-exactly s l e = (there, back)
     where
-      there : numberIn (verdictOn kind.Refused body) ≡ 0 → (place : ℕ) × (place < inputs) × (keplerOf (problemOf body) ≡ answer.refused (inputNumber place) 0)
+      there : numberIn (verdictOn kind.Refused card) ≡ 0 → (place : ℕ) × (place < inputs) × (keplerOf (problemOf (card .question)) ≡ answer.refused (inputNumber place) 0)
       there z =
-          let p = problemOf body in
-          let given = subst (λ (k : ℕ). isRefusedAs (keplerOf p) k ≡ true) e (refused-means body z .2) in
+          let p = problemOf (card .question) in
+          let given = subst (λ (k : ℕ). isRefusedAs (keplerOf p) k ≡ true) e (refused-means card z .2) in
           let first = first-of (problemNumbers p) (keplerOf p) (refusal-numbered p) (names-first p) given in
           (first .0, first .1 .inside, first-named p (first .0) (first .1))
 
-      back : (place : ℕ) × (place < inputs) × (keplerOf (problemOf body) ≡ answer.refused (inputNumber place) 0) → numberIn (verdictOn kind.Refused body) ≡ 0
+      back : (place : ℕ) × (place < inputs) × (keplerOf (problemOf (card .question)) ≡ answer.refused (inputNumber place) 0) → numberIn (verdictOn kind.Refused card) ≡ 0
       back (place, h, k) = accepted s l (rw (k, e) (means-one place h))
 
-  pub solved-not-finite : (place : ℕ) → spareOf body ≡ 0 → FirstNotFinite (problemNumbers (problemOf body)) place → verdictOn kind.Solved body ≡ rejected (inputNumber place)
+  pub solved-not-finite : (place : ℕ) → spareOf (card .question) ≡ 0 → FirstNotFinite (problemNumbers (problemOf (card .question))) place → verdictOn kind.Solved card ≡ rejected (inputNumber place)
   unfolding verdictOn solvedCard must onward
-  solved-not-finite place s f = rw (eq-eqb (spareOf body) 0 s, first-refuses (problemOf body) place f) refl
+  solved-not-finite place s f = rw (eq-eqb (spareOf (card .question)) 0 s, first-refuses (problemOf (card .question)) place f) refl

@@ -1,4 +1,4 @@
--- The six words of a body that stand for the state, and those of a state: those of its two vectors. The comparison of a verdict holds exactly where
+-- The six words of an answer that stand for the state, and those of a state: those of its two vectors. The comparison of a verdict holds exactly where
 -- the two lists are equal, since it does so for each vector.
 use mathlib.Core.Path.{_≡_, ap, _∙_}
 use mathlib.Core.Logic.{_↔_}
@@ -13,26 +13,26 @@ use Rattle.compared.specs.Compared.{sameWords}
 use Rattle.compared.proofs.Words.{wordsAt, vectorWords, same-words}
 use Rattle.verdict.specs.Verdict.{sameState}
 
--- the six words of a body, in order, and those of a state
-abbrev pub stateWords : List ℕ → List ℕ
-stateWords body = wordsAt body positionFrom ++ wordsAt body velocityFrom
+-- the six words of an answer, in order, and those of a state
+abbrev pub stateWords : (answer : List ℕ) → List ℕ
+stateWords answer = wordsAt answer positionFrom ++ wordsAt answer velocityFrom
 
 abbrev pub wordsOf : State → List ℕ
 wordsOf state = vectorWords (state .r) ++ vectorWords (state .v)
 
-pub same-state : (body : List ℕ) (state : State) → (sameState body state ≡ true) ↔ (stateWords body ≡ wordsOf state)
-same-state body state = (there, back)
+pub same-state : (answer : List ℕ) (state : State) → (sameState answer state ≡ true) ↔ (stateWords answer ≡ wordsOf state)
+same-state answer state = (there, back)
   where
-    there : sameState body state ≡ true → stateWords body ≡ wordsOf state
+    there : sameState answer state ≡ true → stateWords answer ≡ wordsOf state
     there h =
-        let t = both (sameWords body positionFrom (state .r)) (sameWords body velocityFrom (state .v)) .0 h in
-        let p = same-words body positionFrom (state .r) .0 (is-true _ (t .0)) in
-        let q = same-words body velocityFrom (state .v) .0 (is-true _ (t .1)) in
-        ap (λ (l : List ℕ). l ++ wordsAt body velocityFrom) p ∙ ap (λ (l : List ℕ). vectorWords (state .r) ++ l) q
+        let t = both (sameWords answer positionFrom (state .r)) (sameWords answer velocityFrom (state .v)) .0 h in
+        let p = same-words answer positionFrom (state .r) .0 (is-true _ (t .0)) in
+        let q = same-words answer velocityFrom (state .v) .0 (is-true _ (t .1)) in
+        ap (λ (l : List ℕ). l ++ wordsAt answer velocityFrom) p ∙ ap (λ (l : List ℕ). vectorWords (state .r) ++ l) q
 
-    back : stateWords body ≡ wordsOf state → sameState body state ≡ true
+    back : stateWords answer ≡ wordsOf state → sameState answer state ≡ true
     back e =
-        let p : wordsAt body positionFrom ≡ vectorWords (state .r) = cc in
-        let q : wordsAt body velocityFrom ≡ vectorWords (state .v) = cc in
-        both (sameWords body positionFrom (state .r)) (sameWords body velocityFrom (state .v)) .1
-        (passed (same-words body positionFrom (state .r) .1 p), passed (same-words body velocityFrom (state .v) .1 q))
+        let p : wordsAt answer positionFrom ≡ vectorWords (state .r) = cc in
+        let q : wordsAt answer velocityFrom ≡ vectorWords (state .v) = cc in
+        both (sameWords answer positionFrom (state .r)) (sameWords answer velocityFrom (state .v)) .1
+        (passed (same-words answer positionFrom (state .r) .1 p), passed (same-words answer velocityFrom (state .v) .1 q))

@@ -2,8 +2,6 @@
 -- starting bracket alone: it is that of the functions as they are worked whatever z is. So no refusal of the series, 60, is ever the verdict 6.
 use mathlib.Core.Path.{_≡_, ap, _∙_}
 use mathlib.Core.Bool.{true}
-use mathlib.Core.List.{List}
-use Prim.Native.Nat.{ℕ}
 use lib.Dec.{eqb}
 use lib.Ieee.{Float, binary64}
 use lib.Ieee.Bits.{ofBits-fits}
@@ -19,30 +17,30 @@ use Rattle.conic.proofs.Worked.{workedTime, workedArrival, worked-time, worked-
 use Rattle.entry.specs.Entry.{entryBy, entryOf}
 use Rattle.entry.proofs.Passed.{entered}
 use Rattle.entry.proofs.Range.{bracket-works, worked-entry}
-use Rattle.card.specs.Fields.{answerAt, problemOf, spareOf, xOf}
+use Rattle.card.specs.Fields.{Parts, problemOf, spareOf, xOf}
 use Rattle.compared.specs.Compared.{answeredBy}
 use Rattle.compared.proofs.Answered.{x-finite, answered-same}
 use Rattle.verdict.specs.Verdict.{sameState, atX, solvedCard}
 use Rattle.verdict.proofs.Tests.{starts-fair}
 
-module _ (body : List ℕ) where
+module _ (card : Parts) where
   abbrev x : Float
-  x = xOf body
+  x = xOf (card .answer)
 
   -- the tests at x, with T and arrival as they are worked whatever z is
   abbrev pub workedAtX : Scaled × Bracket → Checked Float
-  workedAtX (o, start) = answeredBy (workedTime o) (o .t) (o .f4) (workedArrival o) (sameState body) start x
+  workedAtX (o, start) = answeredBy (workedTime o) (o .t) (o .f4) (workedArrival o) (sameState (card .answer)) start x
 
-  alike : (o : Scaled) (start : Bracket) → entryOf (problemOf body) ≡ pass (o, start) → within start x ≡ true → (timeAt o x ≡ workedTime o x) × (arrivalAt o x ≡ workedArrival o x)
+  alike : (o : Scaled) (start : Bracket) → entryOf (problemOf (card .question)) ≡ pass (o, start) → within start x ≡ true → (timeAt o x ≡ workedTime o x) × (arrivalAt o x ≡ workedArrival o x)
   alike o start h w =
-      let finite = x-finite (timeAt o) (o .t) (arrivalAt o) (sameState body) start x (starts-fair body o start h) w in
-      let works = bracket-works (problemOf body) o start (entered (problemOf body) o start h) x ((ofBits-fits binary64 (valueAt 8 body answerAt), finite), w) .1 in
+      let finite = x-finite (timeAt o) (o .t) (arrivalAt o) (sameState (card .answer)) start x (starts-fair (card .question) o start h) w in
+      let works = bracket-works (problemOf (card .question)) o start (entered (problemOf (card .question)) o start h) x ((ofBits-fits binary64 (valueAt 8 (card .answer) 0), finite), w) .1 in
       (worked-time o x works, worked-arrival o x works)
 
-  at-x : (e : Scaled × Bracket) → entryOf (problemOf body) ≡ pass e → atX body (e .0) (e .1) ≡ workedAtX e
+  at-x : (e : Scaled × Bracket) → entryOf (problemOf (card .question)) ≡ pass e → atX (card .answer) (e .0) (e .1) ≡ workedAtX e
   unfolding atX
-  at-x (o, start) h = answered-same (timeAt o) (o .t) (arrivalAt o) (sameState body) start x (workedTime o) (workedArrival o) (o .f4) (alike o start h)
+  at-x (o, start) h = answered-same (timeAt o) (o .t) (arrivalAt o) (sameState (card .answer)) start x (workedTime o) (workedArrival o) (o .f4) (alike o start h)
 
-  pub worked-card : solvedCard body ≡ must (eqb (spareOf body) 0) 23 (onward (entryBy workedTime (problemOf body)) workedAtX)
+  pub worked-card : solvedCard card ≡ must (eqb (spareOf (card .question)) 0) 23 (onward (entryBy workedTime (problemOf (card .question))) workedAtX)
   unfolding solvedCard
-  worked-card = ap (must (eqb (spareOf body) 0) 23) (onward-same (entryOf (problemOf body)) (λ e. atX body (e .0) (e .1)) workedAtX at-x ∙ ap (λ (c : Checked (Scaled × Bracket)). onward c workedAtX) (worked-entry (problemOf body)))
+  worked-card = ap (must (eqb (spareOf (card .question)) 0) 23) (onward-same (entryOf (problemOf (card .question))) (λ e. atX (card .answer) (e .0) (e .1)) workedAtX at-x ∙ ap (λ (c : Checked (Scaled × Bracket)). onward c workedAtX) (worked-entry (problemOf (card .question))))

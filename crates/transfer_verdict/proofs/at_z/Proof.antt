@@ -10,7 +10,7 @@ use Rattle.transfer_verdict.proofs.at_z.Statement.{statement}
 use Rattle.transfer_verdict.proofs.at_z.Tie as tie
 
 -- the row as it was found
-row : (c : tie.After-time) → atZ (c .before .before .before .before .args .body .now) (c .before .before .before .before .args .o) (c .before .before .before .before .args .b) ≡ onward (timing (c .time .result)) (λ residual. foundBy (velocityAt (c .before .before .before .before .args .o)) (sameVelocity (c .before .before .before .before .args .body .now)) (c .before .before .number .result) residual)
+row : (c : tie.After-time) → atZ (c .before .before .before .before .args .answer .now) (c .before .before .before .before .args .o) (c .before .before .before .before .args .b) ≡ onward (timing (c .time .result)) (λ residual. foundBy (velocityAt (c .before .before .before .before .args .o)) (sameVelocity (c .before .before .before .before .args .answer .now)) (c .before .before .number .result) residual)
 unfolding answeredBy atZ
 row c = rw (c .time .ensures, c .before .time-at .ensures, c .before .before .number .ensures) refl
 

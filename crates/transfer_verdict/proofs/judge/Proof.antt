@@ -3,6 +3,7 @@ use mathlib.Core.Path.{_≡_, refl, ap, _∙_}
 use borrow.Author.Needs.{needs}
 use Rattle.rows.specs.Rows.{onward, refusalIn}
 use Rattle.arc_entry.specs.Said.{passedStart}
+use Rattle.card.specs.Fields.{parts}
 use Rattle.ruling.specs.Said.{rejected}
 use Rattle.transfer_verdict.specs.TransferVerdict.{atZ, transferCard}
 use Rattle.transfer_verdict.proofs.judge.Statement.{statement}
@@ -13,7 +14,7 @@ unfolding onward transferCard
 returns c = rw (c .number .ensures, ← c .before .before .before .transfer .ensures, c .before .enum-told .given .1) refl
 
 -- past the way, the row as it was found
-by-way : (c : tie.After-entry) → transferCard (c .before .before .before .before .before .before .args .body .now) ≡ onward (passedStart (c .entry .result)) (λ e. atZ (c .before .before .before .before .before .before .args .body .now) (e .0) (e .1))
+by-way : (c : tie.After-entry) → transferCard (parts (c .before .before .before .before .before .before .before .args .question .now) (c .before .before .before .before .before .before .before .args .answer .now)) ≡ onward (passedStart (c .entry .result)) (λ e. atZ (c .before .before .before .before .before .before .before .args .answer .now) (e .0) (e .1))
 unfolding onward transferCard
 by-way c = rw (← c .before .before .before .before .transfer .ensures, c .before .before .q .given .1, ← c .entry .ensures) refl
 

@@ -10,7 +10,7 @@ use Rattle.verdict.proofs.at_x.Statement.{statement}
 use Rattle.verdict.proofs.at_x.Tie as tie
 
 -- the row as it was found
-row : (c : tie.After-time) → atX (c .before .before .before .before .args .body .now) (c .before .before .before .before .args .o) (c .before .before .before .before .args .b) ≡ onward (timing (c .time .result)) (λ residual. foundBy (arrivalAt (c .before .before .before .before .args .o)) (sameState (c .before .before .before .before .args .body .now)) (c .before .before .number .result) residual)
+row : (c : tie.After-time) → atX (c .before .before .before .before .args .answer .now) (c .before .before .before .before .args .o) (c .before .before .before .before .args .b) ≡ onward (timing (c .time .result)) (λ residual. foundBy (arrivalAt (c .before .before .before .before .args .o)) (sameState (c .before .before .before .before .args .answer .now)) (c .before .before .number .result) residual)
 unfolding answeredBy atX
 row c = rw (c .time .ensures, c .before .time-at .ensures, c .before .before .number .ensures) refl
 

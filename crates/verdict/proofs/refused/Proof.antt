@@ -4,6 +4,7 @@ use mathlib.Core.Bool.{_&&_}
 use lib.Dec.{eqb}
 use borrow.Author.Tests.{not-true, not-false}
 use Rattle.rows.specs.Rows.{pass, must}
+use Rattle.card.specs.Fields.{parts}
 use Rattle.verdict.specs.Verdict.{refusedCard}
 use borrow.Author.Needs.{needs}
 use Rattle.verdict.proofs.refused.Statement.{statement}
@@ -14,7 +15,7 @@ unfolding must refusedCard
 returns c = rw (c .number .ensures, ← c .before .before .before .half .ensures, ← c .before .before .half2 .ensures, not-true (eqb (c .before .before .before .half .result) 0 && eqb (c .before .before .half2 .result) 0) (c .before .if1 .taken)) refl
 
 -- past the spares, the row as it was found
-no-spare : (c : tie.After-refuses-as) → refusedCard (c .before .before .before .before .before .before .before .before .args .body .now) ≡ must (c .refuses-as .result) 24 (pass tt)
+no-spare : (c : tie.After-refuses-as) → refusedCard (parts (c .before .before .before .before .before .before .before .before .before .args .question .now) (c .before .before .before .before .before .before .before .before .before .args .answer .now)) ≡ must (c .refuses-as .result) 24 (pass tt)
 unfolding must refusedCard
 no-spare c = rw (← c .before .before .before .before .before .before .half .ensures, ← c .before .before .before .before .before .half2 .ensures, not-false (eqb (c .before .before .before .before .before .before .half .result) 0 && eqb (c .before .before .before .before .before .half2 .result) 0) (c .before .before .before .before .if1 .left), ← c .before .before .before .problem .ensures, ← c .before .before .kepler .ensures, ← c .before .half3 .ensures, ← c .refuses-as .ensures) refl
 

@@ -3,6 +3,7 @@ use mathlib.Core.Path.{_≡_, refl, ap, _∙_}
 use borrow.Author.Tests.{ne-eqb, eq-eqb}
 use Rattle.rows.specs.Rows.{must, onward, refusalIn}
 use Rattle.entry.specs.Said.{passedStart}
+use Rattle.card.specs.Fields.{parts}
 use Rattle.ruling.specs.Said.{rejected}
 use Rattle.verdict.specs.Verdict.{atX, solvedCard}
 use borrow.Author.Needs.{needs}
@@ -14,7 +15,7 @@ unfolding must solvedCard
 returns c = rw (c .number .ensures, ← c .before .before .half .ensures, ne-eqb (c .before .before .half .result) 0 (c .before .if1 .taken)) refl
 
 -- past the spare, the row as it was found
-no-spare : (c : tie.After-entry) → solvedCard (c .before .before .before .before .before .args .body .now) ≡ onward (passedStart (c .entry .result)) (λ e. atX (c .before .before .before .before .before .args .body .now) (e .0) (e .1))
+no-spare : (c : tie.After-entry) → solvedCard (parts (c .before .before .before .before .before .before .args .question .now) (c .before .before .before .before .before .before .args .answer .now)) ≡ onward (passedStart (c .entry .result)) (λ e. atX (c .before .before .before .before .before .before .args .answer .now) (e .0) (e .1))
 unfolding must solvedCard
 no-spare c = rw (← c .before .before .before .half .ensures, eq-eqb (c .before .before .before .half .result) 0 (c .before .before .if1 .left), ← c .before .problem .ensures, ← c .entry .ensures) refl
 
