@@ -12,11 +12,10 @@ use lib.ListN.{length, take, drop, length-append, length-drop, length-map}
 use lib.Seq.{take-at, drop-at}
 use Rattle.rows.specs.Rows.{Checked, pass, refuse, must, onward}
 use Rattle.rows.proofs.Laws.{pass-once, test-passed, rows-passed}
-use Rattle.card.specs.Fields.{Card}
-use Rattle.contents.specs.Contents.{mostCards, countOf, cardsOf}
+use Rattle.contents.specs.Contents.{Deck, mostCards, countOf, deckIn}
 use Rattle.contents.proofs.Sizes.{few-cards}
 use Rattle.ruling.specs.Said.{Said, numberIn}
-use Rattle.verdict.specs.Verdict.{verdictOn}
+use Rattle.verdict.specs.Verdict.{verdictOf}
 use Rattle.deck.specs.declared.Totals.{Totals}
 use Rattle.deck.specs.Tally.{Residuals, tallyOf}
 use Rattle.deck.specs.Check.{verdictsOf, numbersOf, judgedOf, tallied, answerOf, written, listAfter}
@@ -25,9 +24,9 @@ use Rattle.deck.proofs.Tallied.{totals-add-up}
 -- ---- an accepted deck: its cards, a verdict for each, and room for them
 
 pub record Accepted (deck : List ℕ) (room : ℕ) (verdicts : List Said) : Type 0 where
-  pub cards : List Card
-  pub cards-are : cardsOf deck ≡ pass cards
-  pub verdicts-are : verdicts ≡ verdictsOf cards
+  pub is : Deck
+  pub deck-is : deckIn deck ≡ pass is
+  pub verdicts-are : verdicts ≡ verdictsOf (is .version) (is .cards)
   pub few : countOf deck ≤ mostCards
   pub enough : countOf deck ≤ room
   pub as-many-verdicts : length verdicts ≡ countOf deck
@@ -35,17 +34,17 @@ pub record Accepted (deck : List ℕ) (room : ℕ) (verdicts : List Said) : Type
 pub accepted-means : (deck : List ℕ) (room : ℕ) (verdicts : List Said) → judgedOf deck room ≡ pass verdicts → Accepted deck room verdicts
 unfolding onward judgedOf
 accepted-means deck room verdicts h =
-    let C = rows-passed (cardsOf deck) (λ cards. must (leb (countOf deck) room) 39 (pass (verdictsOf cards))) h in
-    let list = test-passed (leb (countOf deck) room) 39 (pass (verdictsOf (C .0))) (C .2) in
-    let is : verdictsOf (C .0) ≡ verdicts = pass-once (list .1) in
+    let C = rows-passed (deckIn deck) (λ d. must (leb (countOf deck) room) 39 (pass (verdictsOf (d .version) (d .cards)))) h in
+    let list = test-passed (leb (countOf deck) room) 39 (pass (verdictsOf (C .0 .version) (C .0 .cards))) (C .2) in
+    let is : verdictsOf (C .0 .version) (C .0 .cards) ≡ verdicts = pass-once (list .1) in
     let many = few-cards deck (C .0) (C .1) in
     record {
-      cards = C .0;
-      cards-are = C .1;
+      is = C .0;
+      deck-is = C .1;
       verdicts-are = sym is;
       few = many .1;
       enough = leb-true (countOf deck) room (list .0);
-      as-many-verdicts = sym (ap length is) ∙ length-map (C .0) (λ (c : Card). verdictOn (c .kind) (c .body)) ∙ many .0;
+      as-many-verdicts = sym (ap length is) ∙ length-map (C .0 .cards) (verdictOf (C .0 .version)) ∙ many .0;
     }
 
 -- the three totals add up to the count, which the list has room for
@@ -105,22 +104,22 @@ list-as-long deck list = as-long deck list (judgedOf deck (length list)) refl
 
 -- an accepted deck's cards: tally and totals are theirs, and the list begins with their verdicts' numbers
 pub record Answered (deck list : List ℕ) (totals : Totals) (r : Residuals) : Type 0 where
-  pub cards : List Card
-  pub cards-are : cardsOf deck ≡ pass cards
-  pub tally : tallyOf (verdictsOf cards) ≡ (totals, r)
-  pub as-many : totals .solved + totals .refused + totals .rejected ≡ length cards
-  pub few : length cards ≤ mostCards
-  pub numbers : listAfter deck list ≡ numbersOf cards ++ drop (length (verdictsOf cards)) list
+  pub is : Deck
+  pub deck-is : deckIn deck ≡ pass is
+  pub tally : tallyOf (verdictsOf (is .version) (is .cards)) ≡ (totals, r)
+  pub as-many : totals .solved + totals .refused + totals .rejected ≡ length (is .cards)
+  pub few : length (is .cards) ≤ mostCards
+  pub numbers : listAfter deck list ≡ numbersOf (is .version) (is .cards) ++ drop (length (verdictsOf (is .version) (is .cards))) list
 
 pub answered : (deck list : List ℕ) (totals : Totals) (r : Residuals) → answerOf deck (length list) ≡ pass (totals, r) → Answered deck list totals r
 unfolding answerOf listAfter
 answered deck list totals r h =
     let J = rows-passed (judgedOf deck (length list)) (λ verdicts. pass (tallyOf verdicts)) h in
     let a = accepted-means deck (length list) (J .0) (J .1) in
-    let many = few-cards deck (a .cards) (a .cards-are) in
+    let many = few-cards deck (a .is) (a .deck-is) in
     record {
-      cards = a .cards;
-      cards-are = a .cards-are;
+      is = a .is;
+      deck-is = a .deck-is;
       tally = sym (ap tallyOf (a .verdicts-are)) ∙ pass-once (J .2);
       as-many = totals-fit deck (length list) totals r h .add-up ∙ sym (many .0);
       few = omega (arith, many .0, many .1);
@@ -128,12 +127,12 @@ answered deck list totals r h =
     }
 
 -- a list with 256 places is never too short: a deck is refused for its contents alone
-never-short : (count room k : ℕ) (m : Checked (List Card)) → ((cards : List Card) → m ≡ pass cards → count ≤ room)
-    → tallied (onward m (λ cards. must (leb count room) 39 (pass (verdictsOf cards)))) ≡ refuse k → m ≡ refuse k
+never-short : (count room k : ℕ) (m : Checked Deck) → ((d : Deck) → m ≡ pass d → count ≤ room)
+    → tallied (onward m (λ d. must (leb count room) 39 (pass (verdictsOf (d .version) (d .cards))))) ≡ refuse k → m ≡ refuse k
 unfolding onward must
-never-short count room k (pass cards) h e = let passed = rw (le-leb count room (h cards refl)) at e in absurd (true≢false cc)
+never-short count room k (pass d) h e = let passed = rw (le-leb count room (h d refl)) at e in absurd (true≢false cc)
 never-short count room k (refuse n) h e = cc
 
-pub refused-contents : (deck : List ℕ) (room k : ℕ) → mostCards ≤ room → answerOf deck room ≡ refuse k → cardsOf deck ≡ refuse k
+pub refused-contents : (deck : List ℕ) (room k : ℕ) → mostCards ≤ room → answerOf deck room ≡ refuse k → deckIn deck ≡ refuse k
 unfolding answerOf judgedOf
-refused-contents deck room k h e = never-short (countOf deck) room k (cardsOf deck) (λ cards is. omega (arith, few-cards deck cards is .1)) e
+refused-contents deck room k h e = never-short (countOf deck) room k (deckIn deck) (λ d is. omega (arith, few-cards deck d is .1)) e

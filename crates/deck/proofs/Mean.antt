@@ -15,13 +15,14 @@ use Rattle.exact.proofs.Zero.{nought-number, nought-steps, nought-plus}
 use Rattle.exact.proofs.Most.{AtMost, whole-steps, add-most, div-most}
 use Rattle.rows.specs.Rows.{pass}
 use Rattle.rows.proofs.Laws.{pass-once, rows-passed}
+use Rattle.version.specs.declared.Version.{Version}
 use Rattle.card.specs.Fields.{Card}
-use Rattle.contents.specs.Contents.{mostCards, cardsOf}
+use Rattle.contents.specs.Contents.{Deck, mostCards, deckIn}
 use Rattle.contents.proofs.Sizes.{few-cards}
 use Rattle.ruling.specs.Said.{Said, solved, refused, rejected}
 use Rattle.compared.specs.Compared.{mostResidual}
 use Rattle.compared.proofs.Seconds.{times-held, held}
-use Rattle.verdict.specs.Verdict.{verdictOn}
+use Rattle.verdict.specs.Verdict.{verdictOf}
 use Rattle.deck.specs.declared.Totals.{Totals}
 use Rattle.deck.specs.declared.tally.Running.{Running}
 use Rattle.deck.specs.Tally.{nothing, counted, countedAll, Residuals, known, residualsOf, tallyOf}
@@ -74,37 +75,37 @@ mean-most n few some s =
 solved-few : (verdicts : List Said) → length verdicts ≤ mostCards → countedAll nothing verdicts .solved ≤ mostCards
 solved-few verdicts few = omega (arith, few, totals-add-up verdicts)
 
-module _ (cards : List Card) (few : length cards ≤ mostCards) where
-  no-more : length (verdictsOf cards) ≤ mostCards
-  no-more = omega (arith, few, length-map cards (λ (c : Card). verdictOn (c .kind) (c .body)))
+module _ (version : Version) (cards : List Card) (few : length cards ≤ mostCards) where
+  no-more : length (verdictsOf version cards) ≤ mostCards
+  no-more = omega (arith, few, length-map cards (verdictOf version))
 
   -- each sum on the way
-  sums-most : (before after : List Said) → verdictsOf cards ≡ before ++ after → AtMost (mostCards * mostResidual) (countedAll nothing before .sum)
+  sums-most : (before after : List Said) → verdictsOf version cards ≡ before ++ after → AtMost (mostCards * mostResidual) (countedAll nothing before .sum)
   sums-most before after e =
       let fewer : length before ≤ mostCards = omega (arith, no-more, ap length e ∙ length-append before after) in
-      let s = sum-most nothing before (omega (arith, fewer)) from-nothing (λ r m. card-residuals-most cards r (subst (Among r) (sym e) (among-first r before after m))) in
+      let s = sum-most nothing before (omega (arith, fewer)) from-nothing (λ r m. card-residuals-most version cards r (subst (Among r) (sym e) (among-first r before after m))) in
       record { plus = s .plus; most = le-trans (s .most) (mul-le-mul-right mostResidual (solved-few before fewer)) }
 
-  both-most : (mean worst : Float) → residualsOf (countedAll nothing (verdictsOf cards)) ≡ known mean worst → AtMost mostResidual mean × AtMost mostResidual worst
+  both-most : (mean worst : Float) → residualsOf (countedAll nothing (verdictsOf version cards)) ≡ known mean worst → AtMost mostResidual mean × AtMost mostResidual worst
   both-most mean worst k =
-      let n = countedAll nothing (verdictsOf cards) in
+      let n = countedAll nothing (verdictsOf version cards) in
       let is = known-is n mean worst k in (
-        subst (AtMost mostResidual) (is .1) (mean-most n (solved-few (verdictsOf cards) no-more) (is .0) (sum-most nothing (verdictsOf cards) (omega (arith, no-more)) from-nothing (card-residuals-most cards))),
-        card-residuals-most cards worst (worst-of-cards cards mean worst k .one-of-them),
+        subst (AtMost mostResidual) (is .1) (mean-most n (solved-few (verdictsOf version cards) no-more) (is .0) (sum-most nothing (verdictsOf version cards) (omega (arith, no-more)) from-nothing (card-residuals-most version cards))),
+        card-residuals-most version cards worst (worst-of-cards version cards mean worst k .one-of-them),
       )
 
 -- ---- of every accepted deck
 
-cards-few : (deck : List ℕ) (cards : List Card) → cardsOf deck ≡ pass cards → length cards ≤ mostCards
-cards-few deck cards h = let f = few-cards deck cards h in omega (arith, f .0, f .1)
+cards-few : (deck : List ℕ) (d : Deck) → deckIn deck ≡ pass d → length (d .cards) ≤ mostCards
+cards-few deck d h = let f = few-cards deck d h in omega (arith, f .0, f .1)
 
 -- each sum of residuals on the way
-pub sums-finite : (deck : List ℕ) (cards : List Card) → cardsOf deck ≡ pass cards → (before after : List Said) → verdictsOf cards ≡ before ++ after → AtMost (mostCards * mostResidual) (countedAll nothing before .sum)
-sums-finite deck cards h = sums-most cards (cards-few deck cards h)
+pub sums-finite : (deck : List ℕ) (d : Deck) → deckIn deck ≡ pass d → (before after : List Said) → verdictsOf (d .version) (d .cards) ≡ before ++ after → AtMost (mostCards * mostResidual) (countedAll nothing before .sum)
+sums-finite deck d h = sums-most (d .version) (d .cards) (cards-few deck d h)
 
 -- mean and worst of the tally
-pub tally-finite : (deck : List ℕ) (cards : List Card) (mean worst : Float) → cardsOf deck ≡ pass cards → residualsOf (countedAll nothing (verdictsOf cards)) ≡ known mean worst → AtMost mostResidual mean × AtMost mostResidual worst
-tally-finite deck cards mean worst h = both-most cards (cards-few deck cards h) mean worst
+pub tally-finite : (deck : List ℕ) (d : Deck) (mean worst : Float) → deckIn deck ≡ pass d → residualsOf (countedAll nothing (verdictsOf (d .version) (d .cards))) ≡ known mean worst → AtMost mostResidual mean × AtMost mostResidual worst
+tally-finite deck d mean worst h = both-most (d .version) (d .cards) (cards-few deck d h) mean worst
 
 -- and of what the check answers
 pub answer-finite : (deck : List ℕ) (room : ℕ) (totals : Totals) (mean worst : Float) → answerOf deck room ≡ pass (totals, known mean worst) → AtMost mostResidual mean × AtMost mostResidual worst
@@ -112,4 +113,4 @@ unfolding answerOf
 answer-finite deck room totals mean worst h =
     let J = rows-passed (judgedOf deck room) (λ verdicts. pass (tallyOf verdicts)) h in
     let a = accepted-means deck room (J .0) (J .1) in
-    tally-finite deck (a .cards) mean worst (a .cards-are) (sym (ap (λ (v : List Said). tallyOf v .1) (a .verdicts-are)) ∙ ap (λ (t : Totals × Residuals). t .1) (pass-once (J .2)))
+    tally-finite deck (a .is) mean worst (a .deck-is) (sym (ap (λ (v : List Said). tallyOf v .1) (a .verdicts-are)) ∙ ap (λ (t : Totals × Residuals). t .1) (pass-once (J .2)))

@@ -6,7 +6,8 @@ use borrow.Author.Tests.{le-leb, lt-leb}
 use lib.ListN.{length}
 use Rattle.rows.specs.Rows.{refuse, must, onward}
 use Rattle.rows.proofs.Laws.{row-refused}
-use Rattle.contents.specs.Contents.{entryAt, countOf, cardsFrom, cardsOf, counting}
+use Rattle.version.specs.declared.Version.{Version}
+use Rattle.contents.specs.Contents.{entryAt, countOf, cardsFrom, deckIn, countedIn, Passes}
 use Rattle.contents.proofs.Cards.{come-to-cards}
 use Rattle.contents.proofs.Opened.{Opened}
 use Rattle.deck.specs.Check.{judgedFrom, judgedOf, tallied, answerOf, written, listAfter}
@@ -16,22 +17,22 @@ judged-refused : (deck list : List ℕ) (k : ℕ) → judgedOf deck (length list
 unfolding onward answerOf listAfter
 judged-refused deck list k h = (rw h refl, rw h refl)
 
-pub contents-refused : (deck list : List ℕ) (k : ℕ) → counting (countOf deck) (cardsOf deck) ≡ refuse k → (refuse k ≡ answerOf deck (length list)) × (list ≡ listAfter deck list)
+pub contents-refused : (deck list : List ℕ) (k : ℕ) → countedIn deck ≡ refuse k → (refuse k ≡ answerOf deck (length list)) × (list ≡ listAfter deck list)
 unfolding onward judgedOf
-contents-refused deck list k h = judged-refused deck list k (rw (row-refused (cardsOf deck) (λ cards. countOf deck) h) refl)
+contents-refused deck list k h = judged-refused deck list k (rw (row-refused (deckIn deck) (λ d. (d .version, countOf deck)) h) refl)
 
-module _ (deck : List ℕ) (count : ℕ) (o : Opened deck count) (list : List ℕ) where
+module _ (deck : List ℕ) (version : Version) (count : ℕ) (o : Opened deck version count) (passes : Passes (cardsFrom version deck count 0 (entryAt count))) (list : List ℕ) where
   too-short : length list < count → judgedOf deck (length list) ≡ refuse 39
   unfolding must onward judgedOf
-  too-short h = rw (o .cards-are, come-to-cards (cardsFrom deck count 0 (entryAt count)) (o .passes) .1, ← o .is, lt-leb count (length list) h) refl
+  too-short h = rw (o .deck-is, come-to-cards (cardsFrom version deck count 0 (entryAt count)) passes .1, ← o .is, lt-leb count (length list) h) refl
 
   pub list-too-short : length list < count → (refuse 39 ≡ answerOf deck (length list)) × (list ≡ listAfter deck list)
   list-too-short h = judged-refused deck list 39 (too-short h)
 
-  room-enough : count ≤ length list → judgedOf deck (length list) ≡ judgedFrom deck count
+  room-enough : count ≤ length list → judgedOf deck (length list) ≡ judgedFrom version deck count
   unfolding must onward judgedOf
-  room-enough h = rw (o .cards-are, ← o .is, le-leb count (length list) h) refl
+  room-enough h = rw (o .deck-is, come-to-cards (cardsFrom version deck count 0 (entryAt count)) passes .1, ← o .is, le-leb count (length list) h) refl
 
-  pub accepted : count ≤ length list → (tallied (judgedFrom deck count) ≡ answerOf deck (length list)) × (written (judgedFrom deck count) list ≡ listAfter deck list)
+  pub accepted : count ≤ length list → (tallied (judgedFrom version deck count) ≡ answerOf deck (length list)) × (written (judgedFrom version deck count) list ≡ listAfter deck list)
   unfolding answerOf listAfter
   accepted h = (rw (room-enough h) refl, rw (room-enough h) refl)

@@ -17,9 +17,10 @@ use Rattle.exact.proofs.Signs.{Plus}
 use Rattle.exact.proofs.Most.{AtMost}
 use Rattle.exact.proofs.Zero.{nought-number, nought-steps, nought-plus}
 use Rattle.rows.specs.Rows.{pass}
-use Rattle.card.specs.Fields.{Card}
+use Rattle.version.specs.declared.Version.{Version}
+use Rattle.card.specs.Fields.{Card, partsOf}
 use Rattle.ruling.specs.Said.{Said, solved, refused, rejected}
-use Rattle.verdict.specs.Verdict.{verdictOn}
+use Rattle.verdict.specs.Verdict.{verdictOf}
 use Rattle.compared.specs.Compared.{mostResidual}
 use Rattle.verdict.proofs.Accepted.{residual-most}
 use Rattle.deck.specs.declared.tally.Running.{Running}
@@ -99,11 +100,11 @@ worst-is-largest verdicts all some m =
 -- ---- in a deck
 
 -- the residuals of cards have no minus and are at most 2^988 s
-pub card-residuals-most : (cards : List Card) (r : Float) → Among r (verdictsOf cards) → AtMost mostResidual r
-card-residuals-most (c ∷ cards) r m = go (verdictOn (c .kind) (c .body)) refl (card-residuals-most cards r) m
+pub card-residuals-most : (version : Version) (cards : List Card) (r : Float) → Among r (verdictsOf version cards) → AtMost mostResidual r
+card-residuals-most version (c ∷ cards) r m = go (verdictOf version c) refl (card-residuals-most version cards r) m
   where
-    go : (v : Said) → verdictOn (c .kind) (c .body) ≡ v → (Among r (verdictsOf cards) → AtMost mostResidual r) → Among r (v ∷ verdictsOf cards) → AtMost mostResidual r
-    go (solved x) e others (inl same) = subst (AtMost mostResidual) (sym same) (residual-most (c .kind) (c .body) x e)
+    go : (v : Said) → verdictOf version c ≡ v → (Among r (verdictsOf version cards) → AtMost mostResidual r) → Among r (v ∷ verdictsOf version cards) → AtMost mostResidual r
+    go (solved x) e others (inl same) = subst (AtMost mostResidual) (sym same) (residual-most (c .kind) (partsOf version (c .kind) (c .body)) x e)
     go (solved x) e others (inr m) = others m
     go refused e others m = others m
     go (rejected k) e others m = others m
@@ -116,20 +117,20 @@ some-solved n (solved x ∷ verdicts) = inr (x, inl refl)
 some-solved n (refused ∷ verdicts) = some-solved (counted n refused) verdicts
 some-solved n (rejected k ∷ verdicts) = some-solved (counted n (rejected k)) verdicts
 
-pub worst-of-cards : (cards : List Card) (mean worst : Float) → residualsOf (countedAll nothing (verdictsOf cards)) ≡ known mean worst → IsLargest (verdictsOf cards) worst
-worst-of-cards cards mean worst k =
+pub worst-of-cards : (version : Version) (cards : List Card) (mean worst : Float) → residualsOf (countedAll nothing (verdictsOf version cards)) ≡ known mean worst → IsLargest (verdictsOf version cards) worst
+worst-of-cards version cards mean worst k =
     let w = known-is (countedAll nothing verdicts) mean worst k in
     subst (IsLargest verdicts) (w .2) (go (w .0) (some-solved nothing verdicts))
   where
     verdicts : List Said
-    verdicts = verdictsOf cards
+    verdicts = verdictsOf version cards
 
     go : (countedAll nothing verdicts .solved ≡ 0 → ⊥) → (countedAll nothing verdicts .solved ≡ 0) ⊎ ((r : Float) × Among r verdicts) → IsLargest verdicts (countedAll nothing verdicts .worst)
     go not (inl none) = absurd (not none)
-    go not (inr some) = worst-is-largest verdicts (λ r m. card-residuals-most cards r m .plus) (some .0) (some .1)
+    go not (inr some) = worst-is-largest verdicts (λ r m. card-residuals-most version cards r m .plus) (some .0) (some .1)
 
 pub worst-of-a-deck : (deck : List ℕ) (room : ℕ) (verdicts : List Said) (mean worst : Float) → judgedOf deck room ≡ pass verdicts → residualsOf (countedAll nothing verdicts) ≡ known mean worst → IsLargest verdicts worst
 worst-of-a-deck deck room verdicts mean worst h k =
     let a = accepted-means deck room verdicts h in
     let is = a .verdicts-are in
-    subst (λ (v : List Said). IsLargest v worst) (sym is) (worst-of-cards (a .cards) mean worst (subst (λ (v : List Said). residualsOf (countedAll nothing v) ≡ known mean worst) is k))
+    subst (λ (v : List Said). IsLargest v worst) (sym is) (worst-of-cards (a .is .version) (a .is .cards) mean worst (subst (λ (v : List Said). residualsOf (countedAll nothing v) ≡ known mean worst) is k))

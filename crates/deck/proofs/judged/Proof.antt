@@ -4,7 +4,8 @@ use mathlib.Core.Path.{_≡_, sym, ap, subst, _∙_}
 use Prim.Native.Nat.{_+_, _-_, _≤_, _<_}
 use native.Mathlib.Omega.{arith}
 use borrow.Author.Needs.{needs}
-use lib.ListN.{length}
+use lib.ListN.{length, take, drop, length-drop}
+use lib.Seq.{length-take-le}
 use Rattle.rows.specs.Rows.{pass}
 use Rattle.contents.specs.Said.{entered}
 use Rattle.contents.specs.Contents.{entryAt, entryIn}
@@ -16,13 +17,13 @@ use Rattle.deck.proofs.judged.Statement.{statement}
 use Rattle.deck.proofs.judged.Tie as tie
 
 abbrev Inv-loop : tie.InvT-loop
-Inv-loop deck count verdicts₀ i₀ at₀ running₀ verdicts i at running = Going deck count verdicts₀ verdicts i at running
+Inv-loop deck version count verdicts₀ i₀ at₀ running₀ verdicts i at running = Going version deck count verdicts₀ verdicts i at running
 
 abbrev μ-loop : tie.MeasureT-loop
-μ-loop deck count verdicts₀ i₀ at₀ running₀ verdicts i at running = count - i
+μ-loop deck version count verdicts₀ i₀ at₀ running₀ verdicts i at running = count - i
 
 loop-holds : tie.Need-loop-holds Inv-loop μ-loop
-loop-holds c = subst (λ (n : Running). Going (c .before .before .before .args .deck .now) (c .before .before .before .args .count) (c .before .before .before .args .verdicts .now) (c .before .before .before .args .verdicts .now) 0 (entryAt (c .before .before .before .args .count)) n) (sym (c .none .ensures)) (start (c .before .before .before .args .deck .now) (c .before .before .before .args .count) (c .before .before .before .args .verdicts .now) (c .before .before .before .pre .1))
+loop-holds c = subst (λ (n : Running). Going (c .before .before .before .args .version) (c .before .before .before .args .deck .now) (c .before .before .before .args .count) (c .before .before .before .args .verdicts .now) (c .before .before .before .args .verdicts .now) 0 (entryAt (c .before .before .before .args .count)) n) (sym (c .none .ensures)) (start (c .before .before .before .args .version) (c .before .before .before .args .deck .now) (c .before .before .before .args .count) (c .before .before .before .args .verdicts .now) (c .before .before .before .pre .1))
 
 same-length : tie.Need-same-length Inv-loop μ-loop
 same-length c = c .before .before .before .before .before .loop .inv .as-long
@@ -31,11 +32,11 @@ returns : tie.Need-returns Inv-loop μ-loop
 returns c = absurd (never-refused (c .before .before .before .before .before .loop .inv) (reasonNumber (c .before .why .given .0 .0)) (omega arith) (sym (c .before .before .before .entry-at .ensures) ∙ ap entered (c .before .why .given .1)))
 
 -- the entry passed, its body is inside, and the list has a place for its verdict
-passed : (c : tie.After-size Inv-loop μ-loop) → entryIn (c .before .before .before .before .before .before .before .before .before .before .args .deck .now) (c .before .before .before .before .before .before .loop .i) (c .before .before .before .before .before .before .loop .at) ≡ pass (c .before .before .kind .given .0 .0)
+passed : (c : tie.After-size Inv-loop μ-loop) → entryIn (c .before .before .before .before .before .before .before .before .before .before .args .version) (c .before .before .before .before .before .before .before .before .before .before .args .deck .now) (c .before .before .before .before .before .before .loop .i) (c .before .before .before .before .before .before .loop .at) ≡ pass (c .before .before .kind .given .0 .0)
 passed c = sym (c .before .before .before .before .entry-at .ensures) ∙ ap entered (c .before .before .kind .given .1)
 
 room : (c : tie.After-size Inv-loop μ-loop) → c .before .before .before .before .before .before .loop .at + c .size .result ≤ length (c .before .before .before .before .before .before .before .before .before .before .args .deck .now)
-room c = rw (c .size .ensures) (entry-inside (c .before .before .before .before .before .before .before .before .before .before .args .deck .now) (c .before .before .before .before .before .before .loop .i) (c .before .before .before .before .before .before .loop .at) (c .before .before .kind .given .0 .0) (passed c))
+room c = rw (c .size .ensures) (entry-inside (c .before .before .before .before .before .before .before .before .before .before .args .version) (c .before .before .before .before .before .before .before .before .before .before .args .deck .now) (c .before .before .before .before .before .before .loop .i) (c .before .before .before .before .before .before .loop .at) (c .before .before .kind .given .0 .0) (passed c))
 
 place : (c : tie.After-size Inv-loop μ-loop) → c .before .before .before .before .before .before .loop .i < length (c .before .before .before .before .before .before .loop .verdicts)
 place c = omega (arith, c .before .before .before .before .before .before .loop .inv .as-long, c .before .before .before .before .before .before .before .before .before .before .pre .0 .1)
@@ -56,7 +57,12 @@ part-judge-into-end-2 : tie.Need-part-judge-into-end-2 Inv-loop μ-loop
 part-judge-into-end-2 c = omega (arith, room (c .before))
 
 judge-into-requires : tie.Need-judge-into-requires Inv-loop μ-loop
-judge-into-requires c κs = some-left (c .before .before .before .before .before .before .before .before .loop .i) (c .before .before .before .before .before .before .before .before .loop .verdicts) (place (c .before .before))
+judge-into-requires c κs =
+    let at = c .before .before .before .before .before .before .before .before .loop .at in
+    let size = c .before .before .size .result in
+    let deck = c .before .before .before .before .before .before .before .before .before .before .before .before .args .deck .now in
+    let whole : length (take (at + size - at) (drop at deck)) ≡ at + size - at = length-take-le (at + size - at) (drop at deck) (omega (arith, length-drop at deck, room (c .before .before))) in
+    (some-left (c .before .before .before .before .before .before .before .before .loop .i) (c .before .before .before .before .before .before .before .before .loop .verdicts) (place (c .before .before)), omega (arith, whole, c .before .before .size .ensures))
 
 with-requires : tie.Need-with-requires Inv-loop μ-loop
 with-requires c κs = omega (arith, c .before .before .before .before .before .before .before .before .before .before .before .loop .inv .total, c .before .before .before .before .before .before .before .before .before .before .before .before .before .before .before .pre .0 .0)
