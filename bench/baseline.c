@@ -1,6 +1,6 @@
-/* The steps of docs/RULES.md in plain C: what the proved code is measured against. Of a deck's cards it
- * knows kinds 1 and 2, and no others are measured; the transfer stands in bench/transfer.c. How both are
- * compiled, twice, bench/steps.h says. */
+/* The steps of docs/RULES.md in plain C: what the proved code is measured against. The transfer stands in
+ * bench/transfer.c, with the verdict on a card of kind 3; no such card is measured. How both are compiled,
+ * twice, bench/steps.h says. */
 #include "steps.h"
 
 typedef struct { Vector r, v; } State;
@@ -166,13 +166,39 @@ uint32_t NAMED(predict)(const uint8_t *problem, double *sum)
 
 /* ---- the deck */
 
+enum { SOLVED = 1, REFUSED, SOLVED_TRANSFER };
+
 /* Where entry i stands; behind the last entry the bodies begin. */
 static size_t entry_at(size_t i) { return 8 + 12 * i; }
 
-/* The verdict on a solved card, and its residual, |T - t| in seconds. */
-static uint32_t judge_solved(const uint8_t *body, double *residual)
+static int known(uint32_t version) { return version == 1 || version == 2; }
+
+/* How many bytes of a card are its object and its epoch: its tag. */
+static size_t tag_size(uint32_t version) { return version == 2 ? TAG_SIZE : 0; }
+
+/* 0 where the kind is unknown. */
+static size_t body_size(uint32_t kind, size_t tag)
 {
-    if (half(body + 68) != 0)
+    switch (kind) {
+    case SOLVED:
+        return SOLVED_SIZE + tag;
+    case REFUSED:
+        return REFUSED_SIZE + tag;
+    case SOLVED_TRANSFER:
+        return SOLVED_TRANSFER_SIZE + tag;
+    default:
+        return 0;
+    }
+}
+
+/* In a body of kind 1 or 2: behind the problem its spare, then the tag, then what is said of the problem. */
+enum { SPARE_AT = PROBLEM_SIZE, TAG_AT = SPARE_AT + 4 };
+static size_t said_at(size_t tag) { return TAG_AT + tag; }
+
+/* The verdict on a solved card, and its residual, |T - t| in seconds. */
+static uint32_t judge_solved(const uint8_t *body, const uint8_t *said, double *residual)
+{
+    if (half(body + SPARE_AT) != 0)
         return 23;
     Problem p = problem_of(body);
     Scaled o;
@@ -180,7 +206,7 @@ static uint32_t judge_solved(const uint8_t *body, double *residual)
     uint32_t refusal = entry(&p, &o, &b);
     if (refusal)
         return refusal;
-    double x = number(body + 72);
+    double x = number(said);
     if (!is_finite(x) || !within(b, x))
         return 20;
     Functions u = universal(x, o.alpha);
@@ -194,26 +220,33 @@ static uint32_t judge_solved(const uint8_t *body, double *residual)
     if (refusal)
         return refusal;
     *residual = absolute(T - o.t) * o.f4;
-    return __builtin_memcmp(&state, body + 80, sizeof state) == 0 ? 0 : 22;
+    return __builtin_memcmp(&state, said + 8, sizeof state) == 0 ? 0 : 22;
 }
 
-static uint32_t judge_refused(const uint8_t *body)
+static uint32_t judge_refused(const uint8_t *body, const uint8_t *said)
 {
-    if (half(body + 68) != 0 || half(body + 76) != 0)
+    if (half(body + SPARE_AT) != 0 || half(said + 4) != 0)
         return 23;
     Problem p = problem_of(body);
-    uint32_t refusal = kepler(&p).refusal, told = half(body + 72);
+    uint32_t refusal = kepler(&p).refusal, told = half(said);
     int meant = refusal == told || (told == ANY_INPUT && refusal >= FIRST_INPUT);
     return refusal && meant ? 0 : 24;
 }
 
-/* Refusals 34 to 37 of one entry, whose body is to begin at `at`. */
-static int entry_refusal(const uint8_t *fields, size_t at, size_t length)
+static uint32_t judge(uint32_t kind, const uint8_t *body, size_t tag, double *residual)
 {
-    uint32_t kind = half(fields);
-    if (kind != 1 && kind != 2)
+    if (kind == SOLVED_TRANSFER)
+        return NAMED(judge_transfer)(body, residual);
+    const uint8_t *said = body + said_at(tag);
+    return kind == SOLVED ? judge_solved(body, said, residual) : judge_refused(body, said);
+}
+
+/* Refusals 34 to 37 of one entry, whose body is to begin at `at`. */
+static int entry_refusal(const uint8_t *fields, size_t tag, size_t at, size_t length)
+{
+    size_t size = body_size(half(fields), tag);
+    if (size == 0)
         return 34;
-    uint32_t size = kind == 1 ? SOLVED_SIZE : REFUSED_SIZE;
     if (half(fields + 8) != size)
         return 35;
     if (half(fields + 4) != at)
@@ -226,7 +259,7 @@ static int deck_refusal(const uint8_t *deck, size_t length, size_t room)
 {
     if (length < 8)
         return 30;
-    if (half(deck) != 1)
+    if (!known(half(deck)))
         return 31;
     uint32_t count = half(deck + 4);
     if (count > MOST_CARDS)
@@ -235,7 +268,7 @@ static int deck_refusal(const uint8_t *deck, size_t length, size_t room)
     if (length < at)
         return 33;
     for (uint32_t i = 0; i < count; i++) {
-        int refusal = entry_refusal(deck + entry_at(i), at, length);
+        int refusal = entry_refusal(deck + entry_at(i), tag_size(half(deck)), at, length);
         if (refusal)
             return refusal;
         at += half(deck + entry_at(i) + 8);
@@ -260,20 +293,21 @@ double NAMED(check)(const uint8_t *deck, size_t length, uint32_t *verdicts, size
     int refusal = deck_refusal(deck, length, room);
     if (refusal)
         return -refusal;
+    size_t tag = tag_size(half(deck));
     uint32_t count = half(deck + 4);
     const uint8_t *body = deck + entry_at(count);
     Tally tally = { 0 };
     for (uint32_t i = 0; i < count; i++) {
-        int solved = half(deck + entry_at(i)) == 1;
+        uint32_t kind = half(deck + entry_at(i));
         double residual = 0;
-        verdicts[i] = solved ? judge_solved(body, &residual) : judge_refused(body);
+        verdicts[i] = judge(kind, body, tag, &residual);
         if (verdicts[i] != 0)
             tally.rejected++;
-        else if (solved)
-            add_solved(&tally, residual);
-        else
+        else if (kind == REFUSED)
             tally.refused++;
-        body += solved ? SOLVED_SIZE : REFUSED_SIZE;
+        else
+            add_solved(&tally, residual);
+        body += body_size(kind, tag);
     }
     return tally.solved ? tally.sum / tally.solved : 0.0 / 0.0;
 }
@@ -282,57 +316,65 @@ double NAMED(check)(const uint8_t *deck, size_t length, uint32_t *verdicts, size
 
 static void put_half(uint8_t *at, uint32_t w) { __builtin_memcpy(at, &w, sizeof w); }
 
-static size_t body_size(const Outcome *out) { return out->refusal ? REFUSED_SIZE : SOLVED_SIZE; }
+static uint32_t kind_of(const Outcome *out) { return out->refusal ? REFUSED : SOLVED; }
 
-static void put_entry(const Outcome *out, size_t at, uint8_t *fields)
+static void put_entry(uint32_t kind, size_t at, size_t size, uint8_t *fields)
 {
-    put_half(fields, out->refusal ? 2 : 1);
+    put_half(fields, kind);
     put_half(fields + 4, at);
-    put_half(fields + 8, body_size(out));
+    put_half(fields + 8, size);
 }
 
-static void put_body(const uint8_t *problem, const Outcome *out, uint8_t *body)
+static void put_body(const uint8_t *problem, size_t tag, const Outcome *out, uint8_t *body)
 {
+    uint8_t *said = body + said_at(tag);
     __builtin_memcpy(body, problem, PROBLEM_SIZE);
-    put_half(body + 68, 0);
+    put_half(body + SPARE_AT, 0);
+    __builtin_memcpy(body + TAG_AT, problem + PROBLEM_SIZE, tag);
     if (out->refusal) {
-        put_half(body + 72, out->refusal);
-        put_half(body + 76, 0);
+        put_half(said, out->refusal);
+        put_half(said + 4, 0);
         return;
     }
-    __builtin_memcpy(body + 72, &out->x, sizeof out->x);
-    __builtin_memcpy(body + 80, &out->state, sizeof out->state);
+    __builtin_memcpy(said, &out->x, sizeof out->x);
+    __builtin_memcpy(said + 8, &out->state, sizeof out->state);
 }
 
-static void put_deck(const uint8_t *problems, const Outcome *outcomes, size_t count, uint8_t *deck)
+static void put_deck(uint32_t version, const uint8_t *problems, const Outcome *outcomes, size_t count, uint8_t *deck)
 {
-    size_t at = entry_at(count);
-    put_half(deck, 1);
+    size_t tag = tag_size(version), at = entry_at(count);
+    put_half(deck, version);
     put_half(deck + 4, count);
     for (size_t i = 0; i < count; i++) {
-        put_entry(&outcomes[i], at, deck + entry_at(i));
-        put_body(problems + i * PROBLEM_SIZE, &outcomes[i], deck + at);
-        at += body_size(&outcomes[i]);
+        uint32_t kind = kind_of(&outcomes[i]);
+        size_t size = body_size(kind, tag);
+        put_entry(kind, at, size, deck + entry_at(i));
+        put_body(problems + i * (PROBLEM_SIZE + tag), tag, &outcomes[i], deck + at);
+        at += size;
     }
 }
 
 /* How long the deck is depends on what is solved: all outcomes are known before a byte is written. */
-uint32_t NAMED(write)(const uint8_t *problems, size_t length, uint8_t *buffer, size_t room, size_t *size)
+uint32_t NAMED(write)(uint32_t version, uint32_t form, const uint8_t *problems, size_t length, uint8_t *buffer,
+    size_t room, size_t *size)
 {
-    size_t count = length / PROBLEM_SIZE, end = entry_at(count);
+    if (!known(version) || form != (version == 2))
+        return 42;
+    size_t tag = tag_size(version), record = PROBLEM_SIZE + tag;
+    size_t count = length / record, end = entry_at(count);
     if (count > MOST_CARDS)
         return 40;
-    if (length % PROBLEM_SIZE != 0)
+    if (length % record != 0)
         return 46;
     Outcome outcomes[MOST_CARDS];
     for (size_t i = 0; i < count; i++) {
-        Problem p = problem_of(problems + i * PROBLEM_SIZE);
+        Problem p = problem_of(problems + i * record);
         outcomes[i] = kepler(&p);
-        end += body_size(&outcomes[i]);
+        end += body_size(kind_of(&outcomes[i]), tag);
     }
     if (room < end)
         return 41;
-    put_deck(problems, outcomes, count, buffer);
+    put_deck(version, problems, outcomes, count, buffer);
     *size = end;
     return 0;
 }

@@ -10,9 +10,11 @@ void exit(int status) __attribute__((noreturn));
 
 /* There are as many transfers as problems. */
 enum { PROBLEMS = 20000, TRANSFERS = PROBLEMS, CHECKS = 20 };
-enum { DECK_SIZE = 8 + 12 * MOST_CARDS + SOLVED_SIZE * MOST_CARDS };
+/* A problem with object and epoch behind it. What is timed on decks is of version 2. */
+enum { TAGGED_SIZE = PROBLEM_SIZE + TAG_SIZE };
+enum { DECK_SIZE = 8 + 12 * MOST_CARDS + (SOLVED_SIZE + TAG_SIZE) * MOST_CARDS };
 /* The problems of a full deck, and how many such decks the problems make. */
-enum { GROUP_SIZE = MOST_CARDS * PROBLEM_SIZE, GROUPS = PROBLEMS / MOST_CARDS };
+enum { GROUP_SIZE = MOST_CARDS * TAGGED_SIZE, GROUPS = PROBLEMS / MOST_CARDS };
 /* GROUPED is predict once more, of the problems that are written and no others. */
 enum { PREDICT, TRANSFER, CHECK, GROUPED, WRITE, KINDS };
 /* What every byte of a buffer is, and a size, before a deck is written. */
@@ -22,11 +24,14 @@ enum { BEFORE = 0xa5 };
 typedef uint32_t Answer(const uint8_t *record, double *sum);
 typedef struct { uint32_t refusals[PROBLEMS]; double sums[PROBLEMS]; } Answers;
 
+/* What is to be written. */
+typedef struct { uint32_t version, form; const uint8_t *problems; size_t length; } Order;
+
 typedef struct {
     const char *name;
     Answer *predict, *transfer;
     double (*check)(const uint8_t *deck, size_t length, uint32_t *verdicts, size_t room);
-    uint32_t (*write)(const uint8_t *problems, size_t length, uint8_t *buffer, size_t room, size_t *size);
+    Write *write;
     Answers predicted, transferred;
     double mean; /* of the residuals, in seconds */
     uint8_t buffer[DECK_SIZE];
@@ -56,6 +61,7 @@ static Contender contenders[] = {
 enum { CONTENDERS = sizeof contenders / sizeof contenders[0] };
 
 static uint8_t problems[PROBLEMS * PROBLEM_SIZE];
+static uint8_t tagged[PROBLEMS * TAGGED_SIZE];
 static uint8_t transfers[TRANSFERS * TRANSFER_SIZE];
 static uint8_t chosen[GROUP_SIZE];
 static uint8_t deck[DECK_SIZE];
@@ -94,22 +100,35 @@ static void read_inputs(void)
         fail(2, "20000 transfers are wanted behind the problems, and there are", size / TRANSFER_SIZE);
 }
 
+/* The same problems, each with its place for an object, and the place below zero for an epoch. */
+static void tag_problems(void)
+{
+    for (size_t i = 0; i < PROBLEMS; i++) {
+        uint8_t *at = tagged + i * TAGGED_SIZE;
+        uint32_t object = i + 1;
+        int64_t epoch = -(int64_t)object;
+        __builtin_memcpy(at, problems + i * PROBLEM_SIZE, PROBLEM_SIZE);
+        __builtin_memcpy(at + PROBLEM_SIZE, &object, sizeof object);
+        __builtin_memcpy(at + PROBLEM_SIZE + sizeof object, &epoch, sizeof epoch);
+    }
+}
+
 /* A full deck of the first problems that are solved. Gives how many are solved in all. */
 static size_t make_deck(void)
 {
     size_t solved = 0, size = 0;
     double sum;
     for (size_t i = 0; i < PROBLEMS; i++) {
-        const uint8_t *problem = problems + i * PROBLEM_SIZE;
+        const uint8_t *problem = tagged + i * TAGGED_SIZE;
         if (digit_predict(problem, &sum) != 0)
             continue;
         if (solved < MOST_CARDS)
-            __builtin_memcpy(chosen + solved * PROBLEM_SIZE, problem, PROBLEM_SIZE);
+            __builtin_memcpy(chosen + solved * TAGGED_SIZE, problem, TAGGED_SIZE);
         solved++;
     }
     if (solved < MOST_CARDS)
         fail(2, "too few problems are solved:", solved);
-    if (digit_write(chosen, sizeof chosen, deck, sizeof deck, &size) != 0 || size != sizeof deck)
+    if (digit_write(2, 1, chosen, sizeof chosen, deck, sizeof deck, &size) != 0 || size != sizeof deck)
         fail(1, "the deck of solved cards is of another length:", size);
     return solved;
 }
@@ -132,6 +151,13 @@ static double time_transfer(Contender *c)
     return time_answers(c->transfer, transfers, TRANSFER_SIZE, TRANSFERS, &c->transferred);
 }
 
+static void want_accepted(const uint32_t *verdicts)
+{
+    for (size_t i = 0; i < MOST_CARDS; i++)
+        if (verdicts[i] != 0)
+            fail(1, "a card is rejected, at place", i + 1);
+}
+
 static double time_check(Contender *c)
 {
     uint32_t verdicts[MOST_CARDS];
@@ -140,9 +166,7 @@ static double time_check(Contender *c)
     for (int i = 0; i < CHECKS; i++)
         c->mean = c->check(deck, sizeof deck, verdicts, MOST_CARDS);
     double took = seconds() - began;
-    for (size_t i = 0; i < MOST_CARDS; i++)
-        if (verdicts[i] != 0)
-            fail(1, "a card is rejected, at place", i + 1);
+    want_accepted(verdicts);
     return took / (CHECKS * MOST_CARDS);
 }
 
@@ -151,7 +175,7 @@ static double time_write(Contender *c)
     uint32_t refusal = 0;
     double began = seconds();
     for (size_t i = 0; i < GROUPS; i++)
-        refusal |= c->write(problems + i * GROUP_SIZE, GROUP_SIZE, c->buffer, sizeof c->buffer, &c->size);
+        refusal |= c->write(2, 1, tagged + i * GROUP_SIZE, GROUP_SIZE, c->buffer, sizeof c->buffer, &c->size);
     double took = seconds() - began;
     if (refusal != 0)
         fail(1, "a deck is refused, of so many:", GROUPS);
@@ -181,49 +205,80 @@ static size_t solved_in(const Answers *a)
     return solved;
 }
 
-static uint32_t write_anew(Contender *c, const uint8_t *from, size_t length, size_t room)
+static uint32_t write_anew(Contender *c, Order o, size_t room)
 {
     __builtin_memset(c->buffer, BEFORE, sizeof c->buffer);
     c->size = BEFORE;
-    return c->write(from, length, c->buffer, room, &c->size);
+    return c->write(o.version, o.form, o.problems, o.length, c->buffer, room, &c->size);
 }
 
 /* The whole buffers are compared: what stands behind a deck is to stay. */
-static void compare_decks(const uint8_t *from, size_t place)
+static void compare_decks(Order o, size_t place)
 {
     const Contender *proved = &contenders[0];
     for (int k = 0; k < CONTENDERS; k++) {
         Contender *c = &contenders[k];
-        if (write_anew(c, from, GROUP_SIZE, sizeof c->buffer) != 0)
+        if (write_anew(c, o, sizeof c->buffer) != 0)
             fail(1, "a deck is refused, at place", place);
         if (c->size != proved->size || __builtin_memcmp(c->buffer, proved->buffer, sizeof c->buffer) != 0)
             fail(1, "the decks differ at place", place);
     }
 }
 
-static void try_refusal(const uint8_t *from, size_t length, size_t room, uint32_t number)
+/* A deck of version 1, written by each, and the verdicts and the mean of each on it. */
+static void compare_version_1(void)
+{
+    uint32_t verdicts[MOST_CARDS];
+    compare_decks((Order){ 1, 0, problems, MOST_CARDS * PROBLEM_SIZE }, GROUPS + 1);
+    for (int k = 0; k < CONTENDERS; k++) {
+        Contender *c = &contenders[k];
+        __builtin_memset(verdicts, 0xff, sizeof verdicts);
+        c->mean = c->check(c->buffer, c->size, verdicts, MOST_CARDS);
+        want_accepted(verdicts);
+        if (!same(c->mean, contenders[0].mean))
+            fail(1, "the means differ, of a deck of version", 1);
+    }
+}
+
+static void try_refusal(Order o, size_t room, uint32_t number)
 {
     uint8_t before[DECK_SIZE];
     __builtin_memset(before, BEFORE, sizeof before);
     for (int k = 0; k < CONTENDERS; k++) {
         Contender *c = &contenders[k];
-        if (write_anew(c, from, length, room) != number)
+        if (write_anew(c, o, room) != number)
             fail(1, "problems are not refused with", number);
         if (c->size != BEFORE || __builtin_memcmp(c->buffer, before, sizeof before) != 0)
             fail(1, "buffer or size is altered by the refusal", number);
     }
 }
 
+/* Versions and forms that don't go together: where all else is right, whole problems of either form, and where
+ * there are too many of them. */
+static void try_pairs(void)
+{
+    static const uint32_t versions[] = { 0, 1, 2, 3, 0xffffffff }, forms[] = { 0, 1, 2, 0xffffffff };
+    for (int v = 0; v < 5; v++)
+        for (int f = 0; f < 4; f++) {
+            if ((versions[v] == 1 && forms[f] == 0) || (versions[v] == 2 && forms[f] == 1))
+                continue;
+            try_refusal((Order){ versions[v], forms[f], tagged, PROBLEM_SIZE * TAGGED_SIZE }, DECK_SIZE, 42);
+            try_refusal((Order){ versions[v], forms[f], tagged, GROUP_SIZE + TAGGED_SIZE }, DECK_SIZE, 42);
+        }
+}
+
 /* The deck of the chosen problems, at place 0, fills its buffer to the last byte. */
 static void compare_writing(void)
 {
-    compare_decks(chosen, 0);
+    compare_decks((Order){ 2, 1, chosen, GROUP_SIZE }, 0);
     for (size_t i = 0; i < GROUPS; i++)
-        compare_decks(problems + i * GROUP_SIZE, i + 1);
-    try_refusal(problems, GROUP_SIZE + PROBLEM_SIZE, DECK_SIZE, 40);
-    try_refusal(problems, GROUP_SIZE + 1, DECK_SIZE, 46);
-    try_refusal(problems, PROBLEM_SIZE - 1, DECK_SIZE, 46);
-    try_refusal(chosen, GROUP_SIZE, DECK_SIZE - 1, 41);
+        compare_decks((Order){ 2, 1, tagged + i * GROUP_SIZE, GROUP_SIZE }, i + 1);
+    compare_version_1();
+    try_pairs();
+    try_refusal((Order){ 2, 1, tagged, GROUP_SIZE + TAGGED_SIZE }, DECK_SIZE, 40);
+    try_refusal((Order){ 2, 1, tagged, GROUP_SIZE + 1 }, DECK_SIZE, 46);
+    try_refusal((Order){ 2, 1, tagged, TAGGED_SIZE - 1 }, DECK_SIZE, 46);
+    try_refusal((Order){ 2, 1, chosen, GROUP_SIZE }, DECK_SIZE - 1, 41);
 }
 
 /* One line for each contender; its ratio is the proved function's time to its own. */
@@ -279,6 +334,7 @@ static void time_all(int round)
 int main(void)
 {
     read_inputs();
+    tag_problems();
     size_t solved = make_deck();
     for (int round = 0; round < ROUNDS; round++)
         time_all(round);
@@ -287,7 +343,7 @@ int main(void)
     compare_writing();
     printf("%d problems, %lu of them solved, %d transfers, %lu of them solved, ",
         PROBLEMS, (unsigned long)solved, TRANSFERS, (unsigned long)solved_in(&contenders[0].transferred));
-    printf("a deck of %d solved cards, %d decks written: the three agree on all\n", MOST_CARDS, GROUPS);
+    printf("a deck of %d solved cards, %d decks written, of version 2: the three agree on all\n", MOST_CARDS, GROUPS);
     printf("rounds: %d; each figure is a median\n", ROUNDS);
     print_times("predict, time per problem", PREDICT);
     print_times("transfer, time per transfer", TRANSFER);

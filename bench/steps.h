@@ -5,8 +5,9 @@
  * crates/root finds it; without, it is the processor's own. To be compiled with -ffp-contract=off
  * and no fast-math, so that each + - * / rounds once. A refusal is its number, and 0 is none.
  *
- * All is static and small: a file that includes it has its own copy, which the compiler puts where it is
- * used. No function is reached by a pointer, which would slow the C and flatter the proved code. */
+ * All that is made here is static and small: a file that includes it has its own copy, which the compiler
+ * puts where it is used. No function is reached by a pointer, which would slow the C and flatter the proved
+ * code. */
 #ifndef STEPS_H
 #define STEPS_H
 
@@ -17,6 +18,10 @@
 #else
 #define NAMED(name) hardware_##name
 #endif
+
+/* The verdict on a solved transfer, a card of kind 3, and its residual, |T - t| in seconds: what the check of
+ * a deck, in bench/baseline.c, takes from bench/transfer.c. */
+uint32_t NAMED(judge_transfer)(const uint8_t *body, double *residual);
 
 typedef struct { double x, y, z; } Vector;
 typedef struct { double u0, u1, u2, u3; } Functions;

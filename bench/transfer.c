@@ -4,7 +4,7 @@
 
 typedef struct { double mu; Vector r1, r2; double dt; uint32_t limit, way; } Transfer;
 /* The two positions in units of the first. A is below zero for the long way. */
-typedef struct { Vector u, d; double rho, A, f1, t; } Leg;
+typedef struct { Vector u, d; double rho, A, f1, f4, t; } Leg;
 /* What a z comes to: y, G = A*g and the time. */
 typedef struct { double y, G, time; } Reach;
 /* z and v where nothing is refused; the bracket's ends belong to 9 and 10 alone. */
@@ -46,14 +46,14 @@ static int leg_of(const Transfer *p, Leg *o)
     if (refusal)
         return refusal;
     Vector u = over(p->r1, r0), e = over(p->r2, m2), d = over(p->r2, r0);
-    double t = p->dt / (r0 * f1), rho = m2 / r0, c = dot(u, e);
+    double f4 = r0 * f1, t = p->dt / f4, rho = m2 / r0, c = dot(u, e);
     if (!is_finite(t) || !all_finite(u) || !all_finite(e) || !all_finite(d) || !is_finite(rho) || !is_finite(c))
         return 6;
     if (1 - absolute(c) < 0x1p-20)
         return 50;
     if (!root(rho * (1 + c), &A))
         return 6;
-    *o = (Leg){ u, d, rho, p->way ? -A : A, f1, t };
+    *o = (Leg){ u, d, rho, p->way ? -A : A, f1, f4, t };
     return 0;
 }
 
@@ -143,4 +143,29 @@ uint32_t NAMED(transfer)(const uint8_t *transfer, double *sum)
         return out.refusal;
     *sum = out.z + out.v.x + out.v.y + out.v.z;
     return 0;
+}
+
+/* z and the velocity stand behind the transfer, in either version. */
+uint32_t NAMED(judge_transfer)(const uint8_t *body, double *residual)
+{
+    Transfer p = transfer_of(body);
+    Leg o;
+    Bracket b;
+    int refusal = start(&p, &o, &b);
+    if (refusal)
+        return refusal;
+    double z = number(body + TRANSFER_SIZE);
+    if (!is_finite(z) || !within(b, z))
+        return 20;
+    Reach at = reach(&o, z);
+    if (!is_finite(at.time))
+        return 6;
+    if (!near(at.time, o.t))
+        return 21;
+    Vector v;
+    refusal = depart(&o, at, &v);
+    if (refusal)
+        return refusal;
+    *residual = absolute(at.time - o.t) * o.f4;
+    return __builtin_memcmp(&v, body + TRANSFER_SIZE + 8, sizeof v) == 0 ? 0 : 22;
 }

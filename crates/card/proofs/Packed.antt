@@ -1,6 +1,6 @@
 -- Fields without spares and the bodies that have them: how many bytes each has, and that a body gives back the fields that it was made of.
 use mathlib.Core.Path.{_≡_, sym, ap, ap₂, _∙_}
-use mathlib.Core.List.{List, _++_}
+use mathlib.Core.List.{List, _++_, append-assoc}
 use Prim.Native.Nat.{ℕ, _+_, _-_, _≤_}
 use native.Mathlib.Omega.{arith}
 use lib.ListN.{length, take, drop, length-append, length-drop, take-append-drop}
@@ -110,3 +110,12 @@ module _ (v : Version) (given tag : List ℕ) (sized : length given ≡ problemS
 
   pub made-begins : take problemSize (cardFor given tag said .body) ≡ given
   made-begins = begins (kindFor said) given (tag ++ answerFor said) sized
+
+  -- object and epoch stand behind the spare
+  pub made-tag : take (tagSize v) (drop questionSize (cardFor given tag said .body)) ≡ tag
+  made-tag = go said
+    where
+      go : (s : conic.Said) → take (tagSize v) (drop questionSize (cardFor given tag s .body)) ≡ tag
+      go (answer.solved x n state) = ap (take (tagSize v)) (past-spare given _ sized) ∙ take-at tag _ (tagSize v) tag-sized
+      go (answer.refused k n) = ap (take (tagSize v)) (past-spare given _ sized ∙ append-assoc tag _ spare) ∙ take-at tag _ (tagSize v) tag-sized
+      go (answer.refusedWithBracket k n lo hi) = ap (take (tagSize v)) (past-spare given _ sized ∙ append-assoc tag _ spare) ∙ take-at tag _ (tagSize v) tag-sized

@@ -7,4 +7,4 @@ use Rattle.problems.proofs.write.Reads as write
 use Rattle.problems.proofs.write.Kinds as write-kinds
 
 pub write-fixes : Fixes 2 write-kinds.ps write-kinds.r write.Learnt
-write-fixes κs a x y v w p q = (one-answer said-once x y (p .0) (q .0), ap (λ l. (tt, (l, tt))) (one-result (p .1) (q .1)))
+write-fixes κs a x y v w p q = (one-answer said-once x y (p .0) (q .0), ap (λ l. (tt, (tt, (tt, (l, tt))))) (one-result (p .1) (q .1)))

@@ -1,3 +1,4 @@
+mod Widths
 mod Answering
 pub mod Made
 pub mod Theorems

@@ -1,55 +1,73 @@
--- The cards of problems: as many as there are problems, each with its kind's size; and what all problems come to, cards or a refusal.
-use mathlib.Core.Path.{_≡_, refl, ap}
+-- The cards of problems: as many as there are problems, each with its kind's size; and what all problems come to, a deck or a refusal.
+use mathlib.Core.Path.{_≡_, refl, sym, ap, subst, _∙_}
 use mathlib.Core.List.{List}
-use Prim.Native.Nat.{ℕ, zero, suc, _*_, _/_, _%_, _≤_, _<_}
+use Prim.Native.Nat.{ℕ, zero, suc, _+_, _*_, _/_, _%_, _≤_, _<_}
+use native.Mathlib.Nat.{mul-suc}
 use native.Mathlib.Omega.{arith}
 use borrow.Author.Tests.{le-leb, lt-leb, eq-eqb, ne-eqb}
 use lib.ListN.{length, take, drop, length-drop}
 use lib.Seq.{length-take-le}
 use Rattle.rows.specs.Rows.{pass, refuse, must}
+use Rattle.version.specs.declared.Version.{Version}
+use Rattle.version.specs.Version.{tagSize}
 use Rattle.kepler.specs.Kepler.{keplerOf}
-use Rattle.card.specs.Fields.{problemSize, problemOf}
+use Rattle.card.specs.Fields.{Card, problemSize, givenSize, problemOf, sizeOf}
 use Rattle.card.proofs.Packed.{made-size}
 use Rattle.contents.specs.Contents.{mostCards}
 use Rattle.layout.proofs.Sizes.{AllSized}
-use Rattle.problems.specs.Problems.{cardsFor, problemCards}
+use Rattle.predicted.specs.Predicted.{cardOf}
+use Rattle.problems.specs.Problems.{cardsFor, deckFrom, predictedDeck}
+use Rattle.problems.proofs.Answering.{some}
+use Rattle.problems.proofs.Widths.{inside}
+
+-- ---- one problem, as it is given
+
+-- its bytes, and those of object and epoch behind them
+pub record Parted (v : Version) (given : List ℕ) : Type 0 where
+  pub problem : length (take problemSize given) ≡ problemSize
+  pub tag : length (drop problemSize given) ≡ tagSize v
+
+pub parted : (v : Version) (given : List ℕ) → length given ≡ givenSize v → Parted v given
+parted v given h = record { problem = length-take-le problemSize given (omega (arith, h)); tag = length-drop problemSize given ∙ omega (arith, h) }
 
 -- ---- the first n problems, which are there
 
-first-size : (n : ℕ) (problems : List ℕ) → problemSize * suc n ≤ length problems → length (take problemSize problems) ≡ problemSize
-first-size n problems h = length-take-le problemSize problems (omega arith)
+pub first-size : (v : Version) (n : ℕ) (problems : List ℕ) → givenSize v * suc n ≤ length problems → length (take (givenSize v) problems) ≡ givenSize v
+first-size v n problems h = length-take-le (givenSize v) problems (omega (arith, mul-suc (givenSize v) n))
 
-others : (n : ℕ) (problems : List ℕ) → problemSize * suc n ≤ length problems → problemSize * n ≤ length (drop problemSize problems)
-others n problems h = omega (arith, length-drop problemSize problems)
+pub others : (v : Version) (n : ℕ) (problems : List ℕ) → givenSize v * suc n ≤ length problems → givenSize v * n ≤ length (drop (givenSize v) problems)
+others v n problems h = omega (arith, length-drop (givenSize v) problems, mul-suc (givenSize v) n)
 
-pub as-many : (n : ℕ) (problems : List ℕ) → length (cardsFor n problems) ≡ n
+pub as-many : (v : Version) (n : ℕ) (problems : List ℕ) → length (cardsFor v n problems) ≡ n
 unfolding cardsFor
-as-many zero problems = refl
-as-many (suc n) problems = ap suc (as-many n (drop problemSize problems))
+as-many v zero problems = refl
+as-many v (suc n) problems = ap suc (as-many v n (drop (givenSize v) problems))
 
-pub all-sized : (n : ℕ) (problems : List ℕ) → problemSize * n ≤ length problems → AllSized (cardsFor n problems)
+pub all-sized : (v : Version) (n : ℕ) (problems : List ℕ) → givenSize v * n ≤ length problems → AllSized v (cardsFor v n problems)
 unfolding cardsFor
-all-sized zero problems h = tt
-all-sized (suc n) problems h =
-    let given = take problemSize problems in
-    (made-size given (first-size n problems h) (keplerOf (problemOf given)), all-sized n (drop problemSize problems) (others n problems h))
+all-sized v zero problems h = tt
+all-sized v (suc n) problems h =
+    let given = take (givenSize v) problems in
+    let p = parted v given (first-size v n problems h) in
+    (made-size v (take problemSize given) (drop problemSize given) (p .problem) (p .tag) (keplerOf (problemOf given)), all-sized v n (drop (givenSize v) problems) (others v n problems h))
 
 -- ---- all problems
 
-pub too-many : (problems : List ℕ) → mostCards < length problems / problemSize → problemCards problems ≡ refuse 40
-unfolding problemCards must
-too-many problems h = rw (lt-leb (length problems / problemSize) mostCards h) refl
+module _ (v : Version) (problems : List ℕ) where
+  abbrev count : ℕ
+  count = length problems / givenSize v
 
-pub ends-inside : (problems : List ℕ) → length problems / problemSize ≤ mostCards → (length problems % problemSize ≡ 0 → ⊥) → problemCards problems ≡ refuse 46
-unfolding problemCards must
-ends-inside problems h e = rw (le-leb (length problems / problemSize) mostCards h, ne-eqb (length problems % problemSize) 0 e) refl
+  pub too-many : mostCards < count → predictedDeck v problems ≡ refuse 40
+  unfolding predictedDeck must
+  too-many h = rw (lt-leb count mostCards h) refl
 
-pub all-whole : (problems : List ℕ) → length problems / problemSize ≤ mostCards → length problems % problemSize ≡ 0 → problemCards problems ≡ pass (cardsFor (length problems / problemSize) problems)
-unfolding problemCards must
-all-whole problems h e = rw (le-leb (length problems / problemSize) mostCards h, eq-eqb (length problems % problemSize) 0 e) refl
+  pub ends-inside : count ≤ mostCards → (length problems % givenSize v ≡ 0 → ⊥) → predictedDeck v problems ≡ refuse 46
+  unfolding predictedDeck must
+  ends-inside h e = rw (le-leb count mostCards h, ne-eqb (length problems % givenSize v) 0 e) refl
 
-whole : (problems : List ℕ) → problemSize * (length problems / problemSize) ≤ length problems
-whole problems = omega arith
+  pub all-whole : count ≤ mostCards → length problems % givenSize v ≡ 0 → predictedDeck v problems ≡ pass (deckFrom v problems)
+  unfolding predictedDeck must
+  all-whole h e = rw (le-leb count mostCards h, eq-eqb (length problems % givenSize v) 0 e) refl
 
-pub sized : (problems : List ℕ) → AllSized (cardsFor (length problems / problemSize) problems)
-sized problems = all-sized (length problems / problemSize) problems (whole problems)
+  pub sized : AllSized v (deckFrom v problems .cards)
+  sized = all-sized v count problems (inside (givenSize v) (some v) (length problems))

@@ -8,27 +8,27 @@ use lib.ListN.{length, take}
 use lib.Seq.{length-take-le}
 use Rattle.pieces.specs.Pieces.{Put}
 use Rattle.pieces.proofs.Puts.{renamed, wrote, inside, front}
-use Rattle.card.specs.Fields.{problemSize}
+use Rattle.version.specs.declared.Version.{Version}
+use Rattle.card.specs.Fields.{givenSize}
 use Rattle.contents.specs.Contents.{mostCards, largestDeck}
 use Rattle.layout.specs.Layout.{deckOf}
 use Rattle.layout.proofs.Sizes.{deck-most}
 use Rattle.layout.proofs.Writing.{no-room-writes, deck-writes}
-use Rattle.problems.specs.Problems.{cardsFor}
+use Rattle.problems.specs.Problems.{deckFrom}
 use Rattle.problems.proofs.Made.{as-many, sized}
 use Rattle.problems.proofs.in_little_room.Statement.{statement}
 use Rattle.problems.proofs.in_little_room.Tie as tie
 
 -- the deck at the front of a page that has room for any
-deck-there : (problems : List ℕ) {page after : List ℕ} {end : ℕ} → length problems / problemSize ≤ mostCards → largestDeck ≡ length page
-    → Put page 0 (deckOf (cardsFor (length problems / problemSize) problems)) after end
-    → (end ≡ length (deckOf (cardsFor (length problems / problemSize) problems))) × (take end after ≡ deckOf (cardsFor (length problems / problemSize) problems))
-deck-there problems h room p =
-    let n : ℕ = length problems / problemSize in
-    front p (omega (arith, deck-most (cardsFor n problems) (omega (arith, as-many n problems)) (sized problems), room))
+deck-there : (v : Version) (problems : List ℕ) {page after : List ℕ} {end : ℕ} → length problems / givenSize v ≤ mostCards → largestDeck ≡ length page
+    → Put page 0 (deckOf (deckFrom v problems)) after end → (end ≡ length (deckOf (deckFrom v problems))) × (take end after ≡ deckOf (deckFrom v problems))
+deck-there v problems h room p =
+    let n : ℕ = length problems / givenSize v in
+    front p (omega (arith, deck-most (deckFrom v problems) (omega (arith, as-many v n problems)) (sized v problems), room))
 
 returns : tie.Need-returns
 returns c =
-    let d = deck-there (c .before .before .before .before .before .before .before .args .problems .now) (c .before .before .before .before .before .before .before .pre) (c .before .before .before .before .blank .ensures) (c .before .before .fill .ensures) in
+    let d = deck-there (c .before .before .before .before .before .before .before .args .version) (c .before .before .before .before .before .before .before .args .problems .now) (c .before .before .before .before .before .before .before .pre) (c .before .before .before .before .blank .ensures) (c .before .before .fill .ensures) in
     no-room-writes (c .before .before .before .before .before .before .before .args .buffer .now) refl (omega (arith, d .0))
 
 array-share-prefix-page : tie.Need-array-share-prefix-page
@@ -39,7 +39,7 @@ slice-aggregate-put c = sym (length-take-le _ _ (inside (c .before .before .befo
 
 returns-2 : tie.Need-returns-2
 returns-2 c =
-    let d = deck-there (c .before .before .before .before .before .before .before .before .before .before .before .before .args .problems .now) (c .before .before .before .before .before .before .before .before .before .before .before .before .pre) (c .before .before .before .before .before .before .before .before .before .blank .ensures) (c .before .before .before .before .before .before .before .fill .ensures) in
+    let d = deck-there (c .before .before .before .before .before .before .before .before .before .before .before .before .args .version) (c .before .before .before .before .before .before .before .before .before .before .before .before .args .problems .now) (c .before .before .before .before .before .before .before .before .before .before .before .before .pre) (c .before .before .before .before .before .before .before .before .before .blank .ensures) (c .before .before .before .before .before .before .before .fill .ensures) in
     deck-writes refl (omega (arith, d .0)) (renamed (d .1) (wrote (c .before .before .put .ensures)))
 
 pub in-little-room-spec : {M : Type 1} → statement M
