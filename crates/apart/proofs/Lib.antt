@@ -1,4 +1,3 @@
-mod Walking
 mod Turns
 pub mod Taking
 pub mod Theorems

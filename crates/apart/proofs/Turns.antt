@@ -18,14 +18,14 @@ use Rattle.contents.proofs.Cards.{cardAt}
 use Rattle.layout.specs.Packed.{kindsOf, fieldsOf}
 use Rattle.layout.proofs.Packed.{kinds-behind, fields-behind}
 use Rattle.apart.specs.Apart.{kindsTaken, fieldsTaken}
-use Rattle.apart.proofs.Walking.{Walking, set-out, whole-body, walk-on, all-met}
+use Rattle.contents.proofs.Meeting.{Meeting, set-out, whole-body, walk-on, all-met}
 
 -- ---- the sum of the fields' bytes
 
 pub record Summing (v : Version) (deck : List ℕ) (count i sum : ℕ) : Type 0 where
   pub met : List Card
   pub at : ℕ
-  pub walk : Walking v deck count i at met
+  pub walk : Meeting v deck count i at met
   pub sum-is : sum ≡ length (fieldsOf v met)
   pub most : sum ≤ largestFields * i
 
@@ -56,7 +56,7 @@ module _ {v : Version} {deck : List ℕ} {count i sum : ℕ} (s : Summing v deck
 pub record Listing (v : Version) (deck : List ℕ) (count : ℕ) (before list : List ℕ) (i : ℕ) : Type 0 where
   pub met : List Card
   pub at : ℕ
-  pub walk : Walking v deck count i at met
+  pub walk : Meeting v deck count i at met
   pub within : i ≤ count
   pub room : count ≤ length before
   pub listed : Put before 0 (kindsOf met) list i
@@ -90,7 +90,7 @@ module _ {v : Version} {deck : List ℕ} {count : ℕ} {before list : List ℕ} 
 
 pub record Putting (v : Version) (deck : List ℕ) (count : ℕ) (before fields : List ℕ) (at end i : ℕ) : Type 0 where
   pub met : List Card
-  pub walk : Walking v deck count i at met
+  pub walk : Meeting v deck count i at met
   pub put : Put before 0 (fieldsOf v met) fields end
 
 pub none-put : (v : Version) (deck : List ℕ) (count : ℕ) (fields : List ℕ) → countedIn deck ≡ pass (v, count) → Putting v deck count fields fields (entryAt count) 0 0

@@ -1,14 +1,19 @@
 -- How large a body can be, and that each size is the number that RULES, The deck 5 to 8, names.
 use mathlib.Core.Path.{_≡_, refl}
+use mathlib.Core.List.{List}
 use Prim.Native.Nat.{ℕ, _+_, _≤_}
 use native.Mathlib.Omega.{arith}
+use lib.ListN.{length}
 use Rattle.version.specs.declared.Version.{Version}
 use Rattle.version.specs.declared.Version.the-variants as version
 use Rattle.version.specs.Version.{tagSize}
 use Rattle.version.proofs.Sizes.{tag-most}
+use Rattle.tag.specs.Tag.{tagText}
+use Rattle.tag.proofs.Length.{absent-length}
+use Rattle.tag.proofs.Length as tag
 use Rattle.card.specs.declared.Kind.{Kind}
 use Rattle.card.specs.declared.Kind.the-variants as kind
-use Rattle.card.specs.Fields.{questionSize, largestAnswer, answerSize, answerAt, tagAt, sizeOf, largestBody, ownSize, packedSize}
+use Rattle.card.specs.Fields.{questionSize, largestAnswer, answerSize, answerAt, tagAt, sizeOf, largestBody, ownSize, packedSize, tagOf}
 
 -- no body has more bytes than a solved card's in version 2
 pub answer-most : (k : Kind) → answerSize k ≤ largestAnswer
@@ -33,6 +38,12 @@ unfolding tagAt
 tag-inside kind.Solved = omega arith
 tag-inside kind.Refused = omega arith
 tag-inside kind.Transfer = omega arith
+
+-- and no more text than 32 bytes
+pub tag-text-most : (v : Version) (k : Kind) (body : List ℕ) → length (tagText (tagOf v k body)) ≤ 32
+unfolding tagOf
+tag-text-most version.One k body = omega (arith, absent-length)
+tag-text-most version.Two k body = tag.tag-most _ _
 
 -- The deck 5 to 7: the bytes of a body; Writing a deck 3: of a card's fields
 pub record Numbers (v : Version) (bodies fields : ℕ × ℕ × ℕ) : Type 0 where

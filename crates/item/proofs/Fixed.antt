@@ -6,4 +6,4 @@ use Rattle.item.proofs.line.Reads as line
 use Rattle.item.proofs.line.Kinds as line-kinds
 
 pub line-fixes : Fixes 1 line-kinds.ps line-kinds.r line.Learnt
-line-fixes κs a x y v w p q = (one-result (p .0) (q .0), ap (λ l. (tt, (tt, (tt, (l, (tt, tt)))))) (one-result (p .1) (q .1)))
+line-fixes κs a x y v w p q = (one-result (p .0) (q .0), ap (λ l. (tt, (tt, (tt, (tt, (l, (tt, tt))))))) (one-result (p .1) (q .1)))

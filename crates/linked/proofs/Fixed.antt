@@ -21,4 +21,4 @@ pub tailfiddle-check-fixes : Fixes 2 tailfiddle-check-kinds.ps tailfiddle-check-
 tailfiddle-check-fixes κs a x y v w p q = (one-result (p .0) (q .0), ap (λ l. (tt, (l, tt))) (one-result (p .1) (q .1)))
 
 pub tailfiddle-write-fixes : Fixes 3 tailfiddle-write-kinds.ps tailfiddle-write-kinds.r tailfiddle-write.Learnt
-tailfiddle-write-fixes κs a x y v w p q = (one-result (p .0) (q .0), ap₂ (λ l n. (tt, (l, (n, tt)))) (one-result (p .1 .0) (q .1 .0)) (one-result (p .1 .1) (q .1 .1)))
+tailfiddle-write-fixes κs a x y v w p q = (one-result (p .0) (q .0), ap₂ (λ l n. (tt, (tt, (tt, (l, (n, tt)))))) (one-result (p .1 .0) (q .1 .0)) (one-result (p .1 .1) (q .1 .1)))

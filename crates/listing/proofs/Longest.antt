@@ -1,4 +1,4 @@
--- How long a listing can be: at most 5,087 bytes. A card's line has at most 17 bytes and the digits of its place, two less where the card is
+-- How long a listing can be: at most 13,279 bytes. A card's line has at most 49 bytes and the digits of its place, two less where the card is
 -- accepted as solved and one less where it is accepted as refused. These pay for the totals' digits, and for mean and worst but for 44 bytes.
 use mathlib.Core.Path.{_≡_, refl, ap}
 use mathlib.Core.Bool.{Bool, true, false}
@@ -14,13 +14,17 @@ use Rattle.text.specs.Text.{decimal}
 use Rattle.pieces.proofs.Puts.{InFront, found}
 use Rattle.text.proofs.Length.{length-under, length-self, length-number, length-count}
 use Rattle.rows.specs.Rows.{Checked, pass, refuse}
+use Rattle.version.specs.declared.Version.{Version}
+use Rattle.tag.specs.declared.Tag.{Tag}
+use Rattle.tag.specs.Tag.{tagText}
 use Rattle.card.specs.declared.Kind.{Kind}
 use Rattle.card.specs.declared.Kind.the-variants as kind
-use Rattle.card.specs.Fields.{Card}
-use Rattle.contents.specs.Contents.{mostCards, cardsOf, readOfADeck}
+use Rattle.card.specs.Fields.{Card, Parts, partsOf, tagOf}
+use Rattle.card.proofs.Sizes.{tag-text-most}
+use Rattle.contents.specs.Contents.{Deck, mostCards, deckIn, readOfADeck}
 use Rattle.contents.proofs.Sizes.{few-cards, read-is-enough}
 use Rattle.ruling.specs.Said.{Said, solved, refused, rejected, numberIn}
-use Rattle.verdict.specs.Verdict.{verdictOn}
+use Rattle.verdict.specs.Verdict.{verdictOn, verdictOf}
 use Rattle.verdict.proofs.Rejected.{rejected-numbered, rejected-refusal}
 use Rattle.verdict.proofs.Accepted.{never-solved}
 use Rattle.deck.specs.declared.Totals.{Totals}
@@ -53,36 +57,37 @@ digits-of-place p h l = go (ltb p 10) (ltb p 100) refl refl
 accepted-digit : length (decimal 10 0) ≤ 1
 accepted-digit = length-under 10 0 1 (omega arith) (omega arith)
 
-rejected-digits : (k : Kind) (body : List ℕ) (j : ℕ) → verdictOn k body ≡ rejected j → length (decimal 10 j) ≤ 3
-rejected-digits k body j e = length-under 10 j 3 (omega arith) (omega (arith, rejected-numbered k body j e .1))
+rejected-digits : (k : Kind) (card : Parts) (j : ℕ) → verdictOn k card ≡ rejected j → length (decimal 10 j) ≤ 3
+rejected-digits k card j e = length-under 10 j 3 (omega arith) (omega (arith, rejected-numbered k card j e .1))
 
-refusal-digits : (body : List ℕ) (j : ℕ) → verdictOn kind.Refused body ≡ rejected j → length (decimal 10 j) ≤ 2
-refusal-digits body j e = length-under 10 j 2 (omega arith) (rejected-refusal body j e .1)
+refusal-digits : (card : Parts) (j : ℕ) → verdictOn kind.Refused card ≡ rejected j → length (decimal 10 j) ≤ 2
+refusal-digits card j e = length-under 10 j 2 (omega arith) (rejected-refusal card j e .1)
 
--- at most 17 bytes and the digits of the place; two less of a card accepted as solved, one less of one accepted as refused
-line-most : (place : ℕ) (k : Kind) (body : List ℕ) (v : Said) → verdictOn k body ≡ v → length (placedLine place k (numberIn v)) + (2 * counted nothing v .solved + counted nothing v .refused) ≤ 17 + length (decimal 10 place)
-line-most place kind.Solved body (solved x) e = simp length-append (omega (arith, accepted-digit))
-line-most place kind.Solved body refused e = simp length-append (omega (arith, accepted-digit))
-line-most place kind.Solved body (rejected j) e = simp length-append (omega (arith, rejected-digits kind.Solved body j e))
-line-most place kind.Refused body (solved x) e = absurd (never-solved body x e)
-line-most place kind.Refused body refused e = simp length-append (omega (arith, accepted-digit))
-line-most place kind.Refused body (rejected j) e = simp length-append (omega (arith, refusal-digits body j e))
-line-most place kind.Transfer body (solved x) e = simp length-append (omega (arith, accepted-digit))
-line-most place kind.Transfer body refused e = simp length-append (omega (arith, accepted-digit))
-line-most place kind.Transfer body (rejected j) e = simp length-append (omega (arith, rejected-digits kind.Transfer body j e))
+-- at most 49 bytes, 32 of them for object and epoch, and the digits of the place; two less of a card accepted as solved, one less of one accepted as
+-- refused
+line-most : (place : ℕ) (k : Kind) (tag : Tag) → length (tagText tag) ≤ 32 → (card : Parts) (v : Said) → verdictOn k card ≡ v → length (placedLine place k tag (numberIn v)) + (2 * counted nothing v .solved + counted nothing v .refused) ≤ 49 + length (decimal 10 place)
+line-most place kind.Solved tag t card (solved x) e = simp length-append (omega (arith, accepted-digit))
+line-most place kind.Solved tag t card refused e = simp length-append (omega (arith, accepted-digit))
+line-most place kind.Solved tag t card (rejected j) e = simp length-append (omega (arith, rejected-digits kind.Solved card j e))
+line-most place kind.Refused tag t card (solved x) e = absurd (never-solved card x e)
+line-most place kind.Refused tag t card refused e = simp length-append (omega (arith, accepted-digit))
+line-most place kind.Refused tag t card (rejected j) e = simp length-append (omega (arith, refusal-digits card j e))
+line-most place kind.Transfer tag t card (solved x) e = simp length-append (omega (arith, accepted-digit))
+line-most place kind.Transfer tag t card refused e = simp length-append (omega (arith, accepted-digit))
+line-most place kind.Transfer tag t card (rejected j) e = simp length-append (omega (arith, rejected-digits kind.Transfer card j e))
 
 -- the lines of the cards from a place on
-cards-most : (place : ℕ) (cards : List Card) → 0 < place → place + length cards ≤ 1000 → let n = countedAll nothing (verdictsOf cards) in length (cardLines place cards) + (2 * n .solved + n .refused) + digitsBefore place ≤ 17 * length cards + digitsBefore (place + length cards)
+cards-most : (version : Version) (place : ℕ) (cards : List Card) → 0 < place → place + length cards ≤ 1000 → let n = countedAll nothing (verdictsOf version cards) in length (cardLines version place cards) + (2 * n .solved + n .refused) + digitsBefore place ≤ 49 * length cards + digitsBefore (place + length cards)
 unfolding cardLines countedAll
-cards-most place [] h l = let end : place + 0 ≡ place = omega arith in rw end (omega arith)
-cards-most place (c ∷ cards) h l =
-    let verdict = verdictOn (c .kind) (c .body) in
+cards-most version place [] h l = let end : place + 0 ≡ place = omega arith in rw end (omega arith)
+cards-most version place (c ∷ cards) h l =
+    let verdict = verdictOf version c in
     let on : place + suc (length cards) ≡ place + 1 + length cards = omega arith in
-    let all = length-append (cardLine place c) (cardLines (place + 1) cards) in
-    let line = line-most place (c .kind) (c .body) verdict refl in
+    let all = length-append (cardLine version place c) (cardLines version (place + 1) cards) in
+    let line = line-most place (c .kind) (tagOf version (c .kind) (c .body)) (tag-text-most version (c .kind) (c .body)) (partsOf version (c .kind) (c .body)) verdict refl in
     let digits = digits-of-place place h (omega arith) in
-    let others = cards-most (place + 1) cards (omega arith) (omega arith) in
-    let totals = first-and-others verdict (verdictsOf cards) in
+    let others = cards-most version (place + 1) cards (omega arith) (omega arith) in
+    let totals = first-and-others verdict (verdictsOf version cards) in
     rw on (omega arith)
 
 -- ---- an accepted deck
@@ -102,13 +107,14 @@ totals-line : (n : Totals) → length (totalsLine n) ≡ 27 + length (decimal 10
 totals-line n = simp length-append (omega arith)
 
 -- all lines of at most 256 cards
-accepted-most : (cards : List Card) → length cards ≤ mostCards → length (acceptedLines cards) ≤ longestListing
-accepted-most cards few =
-    let verdicts = verdictsOf cards in
+accepted-most : (d : Deck) → length (d .cards) ≤ mostCards → length (acceptedLines d) ≤ longestListing
+accepted-most d few =
+    let cards = d .cards in
+    let verdicts = verdictsOf (d .version) cards in
     let n = countedAll nothing verdicts in
     let all = totals-add-up verdicts in
-    let as-many = length-map cards (λ (c : Card). verdictOn (c .kind) (c .body)) in
-    let lines = cards-most 1 cards (omega arith) (omega arith) in
+    let as-many = length-map cards (verdictOf (d .version)) in
+    let lines = cards-most (d .version) 1 cards (omega arith) (omega arith) in
     let digits = few-digits (1 + length cards) (omega arith) in
     let totals = totals-line (totalsOf n) in
     let refused-digits = length-self 10 (n .refused) in
@@ -118,13 +124,13 @@ accepted-most cards few =
 
 -- ---- any deck
 
--- no listing has more than 5,087 bytes
+-- no listing has more than 13,279 bytes
 pub longest : (deck : List ℕ) → length (listingOf deck) ≤ longestListing
 unfolding listingOf
-longest deck = go (cardsOf deck) refl
+longest deck = go (deckIn deck) refl
   where
-    go : (m : Checked (List Card)) → cardsOf deck ≡ m → length (linesFor m) ≤ longestListing
-    go (pass cards) e = accepted-most cards (omega (arith, few-cards deck cards e))
+    go : (m : Checked Deck) → deckIn deck ≡ m → length (linesFor m) ≤ longestListing
+    go (pass d) e = accepted-most d (omega (arith, few-cards deck d e))
     go (refuse k) e = simp length-append (omega (arith, length-count k))
 
 -- so a page of that many bytes has the listing in front, once it is handed over

@@ -1,6 +1,6 @@
 -- How long the text of object and epoch can be: 11 bytes and 21, or 4 where a card has neither.
 use mathlib.Core.Path.{_≡_, refl}
-use Prim.Native.Nat.{ℕ, _^_, _≤_, _<_}
+use Prim.Native.Nat.{ℕ, _≤_}
 use native.Mathlib.Omega.{arith}
 use lib.IntN.{ℤ}
 use lib.ListN.{length, length-append}
@@ -18,5 +18,5 @@ pub present-most : (object : ℕ) (epoch : ℤ) → SFits w64 epoch → length (
 present-most object epoch f = simp (length-append) (omega (arith, length-count object, length-signed epoch f))
 
 -- of a card that has both: the epoch is what eight of its bytes stand for
-pub tag-most : (object word : ℕ) → word < 2 ^ 64 → length (tagText (tagWith object word)) ≤ 32
-tag-most object word h = present-most object (epochOf word) (epoch-fits word h)
+pub tag-most : (object word : ℕ) → length (tagText (tagWith object word)) ≤ 32
+tag-most object word = present-most object (epochOf word) (epoch-fits word)

@@ -6,7 +6,7 @@ use borrow.Author.Needs.{needs}
 use Rattle.pieces.proofs.Puts.{as-long}
 use Rattle.version.specs.declared.Version.{Version}
 use Rattle.card.specs.Said.{named}
-use Rattle.apart.proofs.Walking.{never-unknown}
+use Rattle.contents.proofs.Meeting.{never-unknown}
 use Rattle.apart.proofs.Turns.{Listing, none-listed, place, list-on, all-listed}
 use Rattle.apart.proofs.list_kinds.Statement.{statement}
 use Rattle.apart.proofs.list_kinds.Tie as tie

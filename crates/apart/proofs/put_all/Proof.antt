@@ -10,7 +10,7 @@ use Rattle.card.specs.Said.{named}
 use Rattle.card.specs.Fields.{sizeOf}
 use Rattle.card.specs.Made.{fieldsIn}
 use Rattle.contents.specs.Contents.{kindAt}
-use Rattle.apart.proofs.Walking.{never-unknown, inside, whole-body}
+use Rattle.contents.proofs.Meeting.{never-unknown, inside, whole-body}
 use Rattle.apart.proofs.Turns.{Putting, none-put, put-on, all-put}
 use Rattle.apart.proofs.put_all.Statement.{statement}
 use Rattle.apart.proofs.put_all.Tie as tie

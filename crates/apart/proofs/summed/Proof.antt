@@ -6,7 +6,7 @@ use native.Mathlib.Omega.{arith}
 use borrow.Author.Needs.{needs}
 use Rattle.card.specs.Said.{named}
 use Rattle.card.proofs.Packed.{packed-most}
-use Rattle.apart.proofs.Walking.{never-unknown}
+use Rattle.contents.proofs.Meeting.{never-unknown}
 use Rattle.apart.proofs.Turns.{Summing, none-summed, sum-on, all-summed}
 use Rattle.apart.proofs.summed.Statement.{statement}
 use Rattle.apart.proofs.summed.Tie as tie

@@ -9,7 +9,7 @@ use lib.ListN.{replicate}
 use Rattle.pieces.specs.Pieces.{joined}
 use Rattle.pieces.proofs.Puts.{puts, last, renamed, wrote}
 use Rattle.rows.specs.Rows.{refuse}
-use Rattle.contents.specs.Contents.{mostCards, cardsOf}
+use Rattle.contents.specs.Contents.{mostCards, deckIn}
 use Rattle.ruling.specs.Said.{reasonNumber}
 use Rattle.deck.specs.declared.Totals.{Totals}
 use Rattle.deck.specs.Tally.{Residuals}
@@ -24,17 +24,17 @@ use Rattle.listing.proofs.write.Statement.{statement}
 use Rattle.listing.proofs.write.Tie as tie
 
 -- a refused deck's listing, and an accepted one's
-only-line : (deck : List ℕ) {k : ℕ} → cardsOf deck ≡ refuse k → refusedLine k ≡ listingOf deck
+only-line : (deck : List ℕ) {k : ℕ} → deckIn deck ≡ refuse k → refusedLine k ≡ listingOf deck
 unfolding listingOf
 only-line deck e = sym (ap linesFor e)
 
-all-lines : {deck list : List ℕ} {totals : Totals} {r : Residuals} (a : Answered deck list totals r) → joined (cardLines 1 (a .cards) ∷ totalsLine totals ∷ residualLines r ∷ []) ≡ listingOf deck
+all-lines : {deck list : List ℕ} {totals : Totals} {r : Residuals} (a : Answered deck list totals r) → joined (cardLines (a .is .version) 1 (a .is .cards) ∷ totalsLine totals ∷ residualLines r ∷ []) ≡ listingOf deck
 unfolding listingOf
-all-lines a = sym (ap linesFor (a .cards-are) ∙ ap (λ (t : Totals × Residuals). joined (cardLines 1 (a .cards) ∷ totalsLine (t .0) ∷ residualLines (t .1) ∷ [])) (a .tally))
+all-lines a = sym (ap linesFor (a .deck-is) ∙ ap (λ (t : Totals × Residuals). joined (cardLines (a .is .version) 1 (a .is .cards) ∷ totalsLine (t .0) ∷ residualLines (t .1) ∷ [])) (a .tally))
 
 -- the list begins with the verdicts' numbers
 judged : {deck list after : List ℕ} {totals : Totals} {r : Residuals} → Answered deck list totals r → after ≡ listAfter deck list → Judged deck after (totals .solved + totals .refused + totals .rejected)
-judged a e = record { cards = a .cards; cards-are = a .cards-are; as-many = sym (a .as-many); behind = _; numbers = e ∙ a .numbers }
+judged a e = record { is = a .is; deck-is = a .deck-is; as-many = sym (a .as-many); behind = _; numbers = e ∙ a .numbers }
 
 -- the deck was accepted
 accepted : (c : tie.After-totals) → Answered (c .before .before .before .before .before .before .before .args .deck .now) (replicate mostCards 0) (c .totals .given .0 .0) (told (c .totals .given .0 .1 .0))
@@ -62,7 +62,7 @@ returns-2 c =
     let s2 = s3 .before .before .before .before in
     let s1 = s2 .before .before .before .before in
     let a = accepted (s1 .before .before .before .before .before .before) in
-    renamed (all-lines a) (puts (s1 .cards .ensures (a .cards) (a .cards-are)) (puts (wrote (s2 .totals-line .ensures)) (last (wrote (s3 .residual-lines .ensures)))))
+    renamed (all-lines a) (puts (s1 .cards .ensures (a .is) (a .deck-is)) (puts (wrote (s2 .totals-line .ensures)) (last (wrote (s3 .residual-lines .ensures)))))
 
 pub write-spec : {M : Type 1} → statement M
 write-spec = tie.close (tie.spec (λ c. search needs) (λ c κs. search needs) (λ c. search needs) (λ c κs. search needs) (λ c κs. search needs) (λ c. search needs) add-count add-count-2 (λ c. search needs) cards-requires (λ c κs. search needs) (λ c κs. search needs) (λ c. search needs) returns (λ c. search needs) returns-2)

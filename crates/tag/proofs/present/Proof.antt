@@ -11,7 +11,7 @@ use Rattle.tag.proofs.present.Statement.{statement}
 use Rattle.tag.proofs.present.Tie as tie
 
 returns : tie.Need-returns
-returns c = ap (tag.Present (c .before .args .object)) (ap (λ (z : ℤ). toZ w64 (ofZ w64 z)) (c .seconds .ensures) ∙ toZ-ofZ (epoch-fits (c .before .args .word) (c .before .fits .word .fits)))
+returns c = ap (tag.Present (c .before .args .object)) (ap (λ (z : ℤ). toZ w64 (ofZ w64 z)) (c .seconds .ensures) ∙ toZ-ofZ (epoch-fits (c .before .args .word)))
 
 pub present-spec : {M : Type 1} → statement M
 present-spec = tie.close (tie.spec (λ c κs. search needs) returns)
