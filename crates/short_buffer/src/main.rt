@@ -1,11 +1,11 @@
 // Tries the refusals of writing, taking apart and copying that `write_deck` and `copy_deck` can't reach,
-// and what becomes of what is lent. The problem on standard input, with object and epoch behind it, makes
-// a deck of one card, of 148 bytes in version 1 and of 160 in version 2. It is written into parts of a
-// buffer, in each version and in the form of the other one; taken apart into short lists and lists that fit;
-// its fields are written anew as a card of kind 0, 1 and 2, as one into a short buffer, as 257, and as 257 in
-// another version, and fields that are all 0 as a card of kind 3; and the deck is copied. A line is written
-// for each list or buffer of which a part is lent: the refusal's number (0: none), and how many of its
-// places still have the value 97 that all had.
+// and what becomes of what is lent. The two problems on standard input, the second with object and epoch,
+// make a deck of one card each, of 148 bytes in version 1 and of 160 in version 2. Each is written into
+// parts of a buffer, in its version and in another one; its deck is taken apart into short lists and lists
+// that fit, and copied; and the first one's fields are written anew as a card of kind 0, 1 and 2, as one
+// into a short buffer, as 257, and as 257 in version 2, and fields that are all 0 as a card of kind 3. A line
+// is written for each list or buffer of which a part is lent: the refusal's number (0: none), and how many
+// of its places still have the value 97 that all had.
 use apart::Apart;
 use layout::Written;
 ghost use Prim.Native.Nat.{_≤_};
@@ -14,39 +14,43 @@ ghost use Prim.Native.Nat.{_≤_};
 const SIZE: usize = 162;
 
 fn main() {
-    let mut space = [0u8; card::PROBLEM + version::TAG];
-    let got = stdio::read(&mut space, card::PROBLEM + version::TAG);
-    if got < card::PROBLEM + version::TAG {
-        return;
-    }
-    write_all(&space);
+    try_plain();
+    try_tagged();
+}
+
+// A problem without object and epoch: version 1.
+fn try_plain() {
+    let mut space = [0u8; card::PROBLEM];
+    let got = stdio::read(&mut space, card::PROBLEM);
+    write_in(1, 0, &space[..got], 7);
+    write_in(1, 0, &space[..got], 147);
+    write_in(1, 0, &space[..got], 148);
+    write_in(1, 0, &space[..got], 150);
+    write_in(2, 0, &space[..got], 162);
     let mut deck = [0u8; 148];
-    problems::write(1, 0, &space[..card::PROBLEM], &mut deck);
+    problems::write(1, 0, &space[..got], &mut deck);
     take_in(&deck, 0, 124);
     take_in(&deck, 1, 123);
     take_in(&deck, 1, 124);
     finish_all(&deck);
     copy_in(&deck, 147);
     copy_in(&deck, 148);
-    let mut tagged = [0u8; 160];
-    problems::write(2, 1, &space, &mut tagged);
-    take_in(&tagged, 1, 135);
-    take_in(&tagged, 1, 136);
-    copy_in(&tagged, 159);
-    copy_in(&tagged, 160);
 }
 
-// Writes the problem's deck in each version, and in none.
-fn write_all(problem: &[u8; card::PROBLEM + version::TAG]) {
-    write_in(1, 0, &problem[..card::PROBLEM], 7);
-    write_in(1, 0, &problem[..card::PROBLEM], 147);
-    write_in(1, 0, &problem[..card::PROBLEM], 148);
-    write_in(1, 0, &problem[..card::PROBLEM], 150);
-    write_in(2, 1, &problem[..], 159);
-    write_in(2, 1, &problem[..], 160);
-    write_in(2, 0, &problem[..card::PROBLEM], 162);
-    write_in(1, 1, &problem[..], 162);
-    write_in(3, 1, &problem[..], 162);
+// A problem with both: version 2.
+fn try_tagged() {
+    let mut space = [0u8; card::PROBLEM + version::TAG];
+    let got = stdio::read(&mut space, card::PROBLEM + version::TAG);
+    write_in(2, 1, &space[..got], 159);
+    write_in(2, 1, &space[..got], 160);
+    write_in(1, 1, &space[..got], 162);
+    write_in(3, 1, &space[..got], 162);
+    let mut deck = [0u8; 160];
+    problems::write(2, 1, &space[..got], &mut deck);
+    take_in(&deck, 1, 135);
+    take_in(&deck, 1, 136);
+    copy_in(&deck, 159);
+    copy_in(&deck, 160);
 }
 
 // Writes the problem's deck.

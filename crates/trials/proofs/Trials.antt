@@ -16,8 +16,10 @@ use Rattle.kepler.specs.Kepler.{keplerOf}
 use Rattle.spelled.specs.Spelled.{bytesOf}
 use Rattle.words.specs.Words.{value, valueAt, wordsBytes}
 use Rattle.text.specs.Text.{decimal, hex}
-use Rattle.card.specs.Fields.{kindOf, kindNumber, sizeOf, problemOf}
-use Rattle.contents.specs.Contents.{entryIn, cardsFrom, cardsOf}
+use Rattle.version.specs.Version.{versionOf, versionNumber, tagSize}
+use Rattle.tag.specs.Tag.{epochOf}
+use Rattle.card.specs.Fields.{kindOf, kindNumber, answerSize, answerAt, tagAt, tagOf, problemOf}
+use Rattle.contents.specs.Contents.{entryIn, cardsFrom, deckIn}
 use Rattle.layout.specs.Layout.{entriesFrom, bodiesOf, deckOf}
 use Rattle.compared.specs.Compared.{timedBy, foundBy, answeredBy}
 use Rattle.verdict.specs.Verdict.{atX, solvedCard, refusedCard, verdictOn}
@@ -26,5 +28,5 @@ use Rattle.listing.specs.Listing.{cardLines, listingOf}
 use Rattle.trials.specs.Table.{AllHold, table}
 
 pub all-hold : AllHold table
-unfolding round add sub mul div neg lt le eq ne ofInt ofBits toBits magnitude isNear steps wholeRoot radicand nearestRoot rootOf firstGuess narrowedBy nextGuess hunt searchOf must onward coefficients workedFrom worked seriesOf functionsAt timeAt unfolded arrivalOf arrivalAt finiteFrom inputsTested rooted radiusOf unitOf testedBy scaledBy scaledOf farEndOf bracketedBy startBy entryOf keplerOf value valueAt bytesOf wordsBytes kindOf kindNumber sizeOf problemOf timedBy foundBy answeredBy atX solvedCard refusedCard verdictOn entryIn cardsFrom cardsOf entriesFrom bodiesOf deckOf countedAll residualsOf decimal hex cardLines listingOf
-all-hold = (refl, (refl, (refl, (refl, (refl, (refl, (refl, (refl, (refl, (refl, (refl, (refl, (refl, (refl, (refl, (refl, (refl, tt)))))))))))))))))
+unfolding round add sub mul div neg lt le eq ne ofInt ofBits toBits magnitude isNear steps wholeRoot radicand nearestRoot rootOf firstGuess narrowedBy nextGuess hunt searchOf must onward coefficients workedFrom worked seriesOf functionsAt timeAt unfolded arrivalOf arrivalAt finiteFrom inputsTested rooted radiusOf unitOf testedBy scaledBy scaledOf farEndOf bracketedBy startBy entryOf keplerOf value valueAt bytesOf wordsBytes versionOf versionNumber tagSize epochOf kindOf kindNumber answerSize answerAt tagAt tagOf problemOf timedBy foundBy answeredBy atX solvedCard refusedCard verdictOn entryIn cardsFrom deckIn entriesFrom bodiesOf deckOf countedAll residualsOf decimal hex cardLines listingOf
+all-hold = (refl, (refl, (refl, (refl, (refl, (refl, (refl, (refl, (refl, (refl, (refl, (refl, (refl, (refl, (refl, (refl, (refl, (refl, (refl, tt)))))))))))))))))))

@@ -20,9 +20,12 @@ use Rattle.conic.specs.Unfolding.{unfolded}
 use Rattle.entry.specs.Entry.{entryOf}
 use Rattle.kepler.specs.Kepler.{keplerOf}
 use Rattle.text.specs.Text.{text}
+use Rattle.version.specs.declared.Version.{Version}
+use Rattle.version.specs.declared.Version.the-variants as version
 use Rattle.card.specs.declared.Kind.the-variants as kind
 use Rattle.card.specs.Fields.{Card}
 use Rattle.card.specs.Made.{problemBytes, solvedBody, refusedBody}
+use Rattle.contents.specs.Contents.{Deck}
 use Rattle.layout.specs.Layout.{deckOf}
 use Rattle.listing.specs.Listing.{listingOf}
 
@@ -34,8 +37,8 @@ pub data Trial : Type 0 where
   -- at x: U1, U2, R and the position
   unfoldsAt : Problem → (x : Float) → (u1 u2 ratio : Float) → Vector → Trial
   keplerGives : Problem → Said → Trial
-  -- the first bytes of the deck of these cards
-  laidOut : List Card → (front : List ℕ) → Trial
+  -- the first bytes of a deck
+  laidOut : Deck → (front : List ℕ) → Trial
   -- a deck's bytes, and its whole listing
   listingGives : (deck listing : List ℕ) → Trial
 
@@ -54,7 +57,7 @@ Holds (rootGives x s) = rootOf x ≡ s
 Holds (startsAt p alpha X) = onward (entryOf p) (λ e. pass (alphaAndFarEnd e)) ≡ pass (alpha, X)
 Holds (unfoldsAt p x u1 u2 ratio r) = onward (entryOf p) (unfoldedAt x) ≡ pass (u1, u2, ratio, r)
 Holds (keplerGives p s) = keplerOf p ≡ s
-Holds (laidOut cards front) = take (length front) (deckOf cards) ≡ front
+Holds (laidOut d front) = take (length front) (deckOf d) ≡ front
 Holds (listingGives deck listing) = listingOf deck ≡ listing
 
 abbrev pub AllHold : List Trial → Type 0
@@ -81,18 +84,29 @@ diagonal = vector one one nought
 abbrev across : Float → Vector
 across y = vector nought y nought
 
--- deck A, as under The check program's listing: three cards, the first solved, the second refused with 7, the third the first with another position
-abbrev solvedAt : (position : Vector) → Card
-solvedAt position = record {
+-- deck A, as under The check program's listing: three cards, the first solved, the second refused with 7, the third the first with another position;
+-- each with the same bytes of object and epoch, where there are any
+abbrev solvedAt : (tag : List ℕ) (position : Vector) → Card
+solvedAt tag position = record {
   kind = kind.Solved;
-  body = solvedBody (problemBytes (problem (across one) nought 20)) nought (record { r = position; v = across one });
+  body = solvedBody (problemBytes (problem (across one) nought 20)) tag nought (record { r = position; v = across one });
 }
 
-abbrev refusedWith : ℕ → Card
-refusedWith k = record { kind = kind.Refused; body = refusedBody (problemBytes (problem (vector one nought nought) nought 20)) k }
+abbrev refusedWith : (tag : List ℕ) → ℕ → Card
+refusedWith tag k = record { kind = kind.Refused; body = refusedBody (problemBytes (problem (vector one nought nought) nought 20)) tag k }
 
-abbrev cardsOfA : List Card
-cardsOfA = solvedAt (vector one nought nought) ∷ refusedWith 7 ∷ solvedAt (vector (numberOf 0x4000_0000_0000_0000) nought nought) ∷ []
+abbrev deckWith : Version → (tag : List ℕ) → Deck
+deckWith v tag = record {
+  version = v;
+  cards = solvedAt tag (vector one nought nought) ∷ refusedWith tag 7 ∷ solvedAt tag (vector (numberOf 0x4000_0000_0000_0000) nought nought) ∷ [];
+}
+
+abbrev deckA : Deck
+deckA = deckWith version.One []
+
+-- the same cards in version 2, with the largest object and the lowest epoch on each
+abbrev deckATagged : Deck
+deckATagged = deckWith version.Two (255 ∷ 255 ∷ 255 ∷ 255 ∷ 0 ∷ 0 ∷ 0 ∷ 0 ∷ 0 ∷ 0 ∷ 0 ∷ 128 ∷ [])
 
 -- its version and count, and its three entries, byte by byte
 abbrev frontOfA : List ℕ
@@ -101,6 +115,15 @@ frontOfA =
     ∷ 1 ∷ 0 ∷ 0 ∷ 0 ∷ 44 ∷ 0 ∷ 0 ∷ 0 ∷ 128 ∷ 0 ∷ 0 ∷ 0
     ∷ 2 ∷ 0 ∷ 0 ∷ 0 ∷ 172 ∷ 0 ∷ 0 ∷ 0 ∷ 80 ∷ 0 ∷ 0 ∷ 0
     ∷ 1 ∷ 0 ∷ 0 ∷ 0 ∷ 252 ∷ 0 ∷ 0 ∷ 0 ∷ 128 ∷ 0 ∷ 0 ∷ 0
+    ∷ []
+
+-- and in version 2
+abbrev frontOfATagged : List ℕ
+frontOfATagged =
+    2 ∷ 0 ∷ 0 ∷ 0 ∷ 3 ∷ 0 ∷ 0 ∷ 0
+    ∷ 1 ∷ 0 ∷ 0 ∷ 0 ∷ 44 ∷ 0 ∷ 0 ∷ 0 ∷ 140 ∷ 0 ∷ 0 ∷ 0
+    ∷ 2 ∷ 0 ∷ 0 ∷ 0 ∷ 184 ∷ 0 ∷ 0 ∷ 0 ∷ 92 ∷ 0 ∷ 0 ∷ 0
+    ∷ 1 ∷ 0 ∷ 0 ∷ 0 ∷ 20 ∷ 1 ∷ 0 ∷ 0 ∷ 140 ∷ 0 ∷ 0 ∷ 0
     ∷ []
 
 abbrev pub table : List Trial
@@ -127,6 +150,9 @@ table =
     -- v (1,1,0), dt 20, limit 1
     ∷ keplerGives (problem diagonal (numberOf 0x4034_0000_0000_0000) 1) (refusedWithBracket 10 1 nought (numberOf 0x4034_0000_0000_0000))
     -- deck A
-    ∷ laidOut cardsOfA frontOfA
-    ∷ listingGives (deckOf cardsOfA) (text "card 1 solved 0\ncard 2 refused 0\ncard 3 solved 22\nsolved 1 refused 1 rejected 1\nmean 0000000000000000\nworst 0000000000000000\n")
+    ∷ laidOut deckA frontOfA
+    ∷ listingGives (deckOf deckA) (text "card 1 solved - - 0\ncard 2 refused - - 0\ncard 3 solved - - 22\nsolved 1 refused 1 rejected 1\nmean 0000000000000000\nworst 0000000000000000\n")
+    -- and in version 2
+    ∷ laidOut deckATagged frontOfATagged
+    ∷ listingGives (deckOf deckATagged) (text "card 1 solved 4294967295 -9223372036854775808 0\ncard 2 refused 4294967295 -9223372036854775808 0\ncard 3 solved 4294967295 -9223372036854775808 22\nsolved 1 refused 1 rejected 1\nmean 0000000000000000\nworst 0000000000000000\n")
     ∷ []

@@ -10,7 +10,7 @@ use Rattle.check_deck.proofs.main.Tie as tie
 
 -- the part of the page up to where the listing ends
 made : (c : tie.After-listing) → InFront (listingOf (take (c .before .before .before .before .read .result) (c .before .before .before .before .read .last .0))) (c .listing .last .1 .0) (c .listing .result)
-made c = in-page (take (c .before .before .before .before .read .result) (c .before .before .before .before .read .last .0)) (replicate 5087 0) refl (c .listing .ensures .0) (c .listing .ensures .1)
+made c = in-page (take (c .before .before .before .before .read .result) (c .before .before .before .before .read .last .0)) (replicate 13279 0) refl (c .listing .ensures .0) (c .listing .ensures .1)
 
 array-share-prefix-page : tie.Need-array-share-prefix-page
 array-share-prefix-page c = made (c .before .before) .within

@@ -4,7 +4,7 @@ use Rattle.maker.proofs.made.Statement.{statement}
 use Rattle.maker.proofs.made.Tie as tie
 
 returns : tie.Need-returns
-returns c = rw (c .before .before .before .before .enum-told .given .1) (c .before .before .write .ensures)
+returns c = rw (c .before .before .before .before .enum-told .given .1) (c .before .before .problems-made .ensures)
 
 returns-2 : tie.Need-returns-2
 returns-2 c = rw (c .before .before .before .before .enum-told2 .given .1) (c .before .before .copy .ensures)

@@ -10,7 +10,7 @@ use Rattle.reply.specs.Reply.{replyOf}
 use Rattle.reply.proofs.Replied.{reply-stands}
 use Rattle.maker.specs.declared.Asked.{Asked}
 use Rattle.maker.specs.declared.Asked.the-variants as asked
-use Rattle.maker.specs.Made.{cardsMade, readOf}
+use Rattle.maker.specs.Made.{deckMade, readOf}
 use Rattle.maker.proofs.make.Statement.{statement}
 use Rattle.maker.proofs.make.Tie as tie
 
@@ -23,10 +23,10 @@ read-requires : tie.Need-read-requires
 read-requires c κs = (c .enough .ensures, rw (c .enough .ensures) (read-most (c .before .before .before .args .asked) (search needs)))
 
 -- the part of the page up to where the reply ends
-made : (c : tie.After-reply) → InFront (replyOf (cardsMade (c .before .before .before .before .before .before .before .before .before .before .before .args .asked) (take (c .before .before .before .before .before .before .before .read .result) (c .before .before .before .before .before .before .before .read .last .1 .0)))) (c .reply .last .1 .0) (c .reply .result)
+made : (c : tie.After-reply) → InFront (replyOf (deckMade (c .before .before .before .before .before .before .before .before .before .before .before .args .asked) (take (c .before .before .before .before .before .before .before .read .result) (c .before .before .before .before .before .before .before .read .last .1 .0)))) (c .reply .last .1 .0) (c .reply .result)
 made c =
     reply-stands
-    (cardsMade (c .before .before .before .before .before .before .before .before .before .before .before .args .asked) (take (c .before .before .before .before .before .before .before .read .result) (c .before .before .before .before .before .before .before .read .last .1 .0)))
+    (deckMade (c .before .before .before .before .before .before .before .before .before .before .before .args .asked) (take (c .before .before .before .before .before .before .before .read .result) (c .before .before .before .before .before .before .before .read .last .1 .0)))
     (replicate largestDeck 0)
     (sym (length-replicate {A = ℕ} largestDeck 0))
     (c .before .before .before .made .ensures .0)

@@ -9,7 +9,7 @@ slice-aggregate-take : tie.Need-slice-aggregate-take
 slice-aggregate-take c = lent 2 97 (c .before .before .args .places) (omega arith)
 
 slice-aggregate-take-2 : tie.Need-slice-aggregate-take-2
-slice-aggregate-take-2 c = lent 150 97 (c .before .before .before .args .room) (omega arith)
+slice-aggregate-take-2 c = lent 162 97 (c .before .before .before .args .room) (omega arith)
 
 pub take-in-spec : {M : Type 1} → statement M
 take-in-spec =
