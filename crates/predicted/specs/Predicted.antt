@@ -13,7 +13,7 @@ use Rattle.version.specs.declared.Version.{Version}
 use Rattle.card.specs.declared.Kind.{Kind}
 use Rattle.card.specs.Fields as card
 use Rattle.card.specs.Fields.{problemSize, givenSize, problemOf}
-use Rattle.card.specs.Made.{answerFor, cardFor}
+use Rattle.card.specs.Made.{bodyOf, answerFor, cardFor}
 use Rattle.ruling.specs.Said.{reasonNumber}
 use Rattle.predicted.specs.declared.Card.{Card}
 use Rattle.predicted.specs.declared.Placed.{Placed}
@@ -54,3 +54,7 @@ givenIn c = wordsBytes (c .given) ++ bytesOf 4 (c .problem .limit)
 -- and the fields that it has on a card, without spares, with the bytes of object and epoch
 abbrev pub fieldsHeld : Card → (tag : List ℕ) → List ℕ
 fieldsHeld c tag = givenIn c ++ (tag ++ answerFor (conic.said (c .outcome)))
+
+-- and its body, as a card of this kind
+abbrev pub bodyHeld : Kind → Card → (tag : List ℕ) → List ℕ
+bodyHeld kind c tag = bodyOf kind (givenIn c) (tag ++ answerFor (conic.said (c .outcome)))

@@ -9,7 +9,6 @@ use conic::State;
 use ruling::Reason;
 use version::Version;
 ghost use mathlib.Core.Path.{_≡_};
-ghost use mathlib.Core.List.{_++_};
 ghost use Prim.Native.Nat.{_≤_};
 ghost use lib.ListN.{length};
 ghost use Rattle.pieces.specs.Pieces.{Put};
@@ -18,8 +17,8 @@ ghost use Rattle.version.specs.Version.{largestTag};
 ghost use Rattle.conic.specs.Said as conic;
 ghost use Rattle.kepler.specs.Kepler.{keplerOf};
 ghost use Rattle.card.specs.Fields.{problemSize, problemOf};
-ghost use Rattle.card.specs.Made.{bodyOf, solvedAnswer, kindFor, answerFor};
-ghost use Rattle.predicted.specs.Predicted.{firstCard, placedIn, withBody, said, wordsIn, givenIn, fieldsHeld};
+ghost use Rattle.card.specs.Made.{solvedAnswer, kindFor, answerFor};
+ghost use Rattle.predicted.specs.Predicted.{firstCard, placedIn, withBody, said, wordsIn, givenIn, fieldsHeld, bodyHeld};
 
 // A card: the problem and its answer, and beside the problem's numbers the words that were given for
 // them, since a NaN among them may have any payload.
@@ -58,7 +57,7 @@ pub fn put(version: Version, problems: &[u8], out: &mut [u8], at: usize) -> Plac
 // The body of a card.
 fn put_body(made: Card, tag: &[u8], kind: Kind, page: &mut [u8], at: usize) -> usize
     requires { ⌜ (length (givenIn made) ≡ problemSize) × (length (now tag) ≤ largestTag) ⌝ }
-    ensures { λ r. ⌜ Put (now (page .entry)) at (bodyOf kind (givenIn made) (now (tag .entry) ++ answerFor (conic.said (made .outcome)))) (now (page .exit)) r ⌝ }
+    ensures { λ r. ⌜ Put (now (page .entry)) at (bodyHeld kind made (now (tag .entry))) (now (page .exit)) r ⌝ }
 {
     let mut fields = [0u8; card::FIELDS];
     let end = put_card(made, tag, &mut fields, 0);

@@ -43,7 +43,7 @@ impl Version {
         ensures { λ r. ⌜ r ≡ tagSize self ⌝ }
     {
         match self {
-            Version::One => 0,
+            Version::One => 0usize,
             Version::Two => TAG,
         }
     }
