@@ -1,11 +1,13 @@
 -- Laws of the contents: what one more entry comes to, refused or a card in front of the rest; that each body lies inside the deck; that as many
--- cards come out as there are entries; and that the entries have their kinds.
+-- cards come out as there are entries; that the entries have their kinds; and that each body has its kind's size.
 use mathlib.Core.Path.{_≡_, refl, sym, ap, subst, _∙_}
 use mathlib.Core.List.{List, [], _∷_}
 use Prim.Native.Nat.{ℕ, zero, suc, _+_, _≤_}
+use native.Mathlib.Omega.{arith}
 use borrow.Author.Tests.{eqb-true, leb-true}
 use lib.Dec.{eqb}
-use lib.ListN.{length, take, drop}
+use lib.ListN.{length, take, drop, length-drop}
+use lib.Seq.{length-take-le}
 use Rattle.rows.specs.Rows.{Checked, pass, refuse, onward}
 use Rattle.rows.proofs.Laws.{pass-once, test-passed, rows-passed}
 use Rattle.version.specs.declared.Version.{Version}
@@ -90,3 +92,15 @@ kinds-named v deck zero i at cards h = subst (KindsFrom deck i) (sym (no-more v 
 kinds-named v deck (suc left) i at cards h =
     let m = one-more v deck left i at cards h in
     subst (KindsFrom deck i) (sym (m .cards-is)) (entry-means v deck i at (m .kind) (m .entry) .kind-is, kinds-named v deck left (i + 1) (at + sizeOf v (m .kind)) (m .rest) (m .others))
+
+-- each body has the size of its kind
+abbrev pub AllSized : Version → List Card → Type 0
+AllSized v [] = Unit
+AllSized v (c ∷ cards) = (length (c .body) ≡ sizeOf v (c .kind)) × AllSized v cards
+
+pub sized-from : (v : Version) (deck : List ℕ) (left i at : ℕ) (cards : List Card) → cardsFrom v deck left i at ≡ pass cards → AllSized v cards
+sized-from v deck zero i at cards h = subst (AllSized v) (sym (no-more v deck i at cards h)) tt
+sized-from v deck (suc left) i at cards h =
+    let m = one-more v deck left i at cards h in
+    let room : sizeOf v (m .kind) ≤ length (drop at deck) = simp length-drop (omega (arith, entry-inside v deck i at (m .kind) (m .entry))) in
+    subst (AllSized v) (sym (m .cards-is)) (length-take-le (sizeOf v (m .kind)) (drop at deck) room, sized-from v deck left (i + 1) (at + sizeOf v (m .kind)) (m .rest) (m .others))

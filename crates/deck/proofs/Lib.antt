@@ -2,6 +2,7 @@ pub mod Tallied
 pub mod Going
 pub mod Settled
 pub mod Accepted
+pub mod Earlier
 pub mod Theorems
 pub mod Worst
 pub mod Mean

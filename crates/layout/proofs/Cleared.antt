@@ -19,13 +19,12 @@ use Rattle.card.specs.Made.{spare, bodyOf, restFrom, fieldsIn, bodyFrom}
 use Rattle.card.proofs.Packed.{body-back}
 use Rattle.card.proofs.Parts.{question-reads, answer-reads}
 use Rattle.contents.specs.Contents.{Deck, entryAt, mostCards, countOf, cardsFrom, deckIn}
-use Rattle.contents.proofs.Cards.{one-more, no-more}
+use Rattle.contents.proofs.Cards.{AllSized, sized-from, one-more, no-more}
 use Rattle.contents.proofs.Opened.{withVersion, opened-to}
 use Rattle.layout.specs.Layout.{deckOf}
 use Rattle.layout.specs.Packed.{kindsOf, fieldsOf, finishedDeck, cleared}
-use Rattle.layout.proofs.Sizes.{AllSized}
 use Rattle.layout.proofs.Packed.{length-kinds, packed-back}
-use Rattle.layout.proofs.WriteBack.{sized-from, cards-sized, write-back}
+use Rattle.layout.proofs.WriteBack.{cards-sized, write-back}
 use Rattle.layout.proofs.Writing.{finished-in, few-enough}
 
 -- the spares of a body are 0, a transfer having none, and those of each card

@@ -16,9 +16,9 @@ use Rattle.card.specs.declared.Kind.{Kind}
 use Rattle.card.specs.Fields.{Card, kindOf, kindNumber, packedSize}
 use Rattle.card.specs.Made.{fieldsIn}
 use Rattle.card.proofs.Packed.{length-body, length-fields, fields-back}
+use Rattle.contents.proofs.Cards.{AllSized}
 use Rattle.layout.specs.Layout.{bodiesOf}
 use Rattle.layout.specs.Packed.{kindsOf, fieldsOf, packedCard, packedCards, cleared}
-use Rattle.layout.proofs.Sizes.{AllSized}
 use Rattle.layout.proofs.KindNumbers.{kind-of-number, number-of-kind}
 
 -- as many kinds as cards

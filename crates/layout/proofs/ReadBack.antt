@@ -19,8 +19,9 @@ use Rattle.card.specs.declared.Kind.the-variants as kind
 use Rattle.card.specs.Fields.{Card, kindOf, kindNumber, sizeOf}
 use Rattle.card.proofs.Sizes.{size-most}
 use Rattle.contents.specs.Contents.{Deck, headerSize, entryAt, mostCards, versionWord, countOf, kindAt, offsetAt, lengthAt, entryIn, cardsFrom, deckIn, largestDeck}
+use Rattle.contents.proofs.Cards.{AllSized}
 use Rattle.layout.specs.Layout.{entryFor, entriesFrom, kindsIn, bodiesOf, deckOf}
-use Rattle.layout.proofs.Sizes.{AllSized, length-entry, length-entries, length-deck, deck-most}
+use Rattle.layout.proofs.Sizes.{length-entry, length-entries, length-deck, deck-most}
 use Rattle.layout.proofs.KindNumbers.{kind-of-number}
 
 number-small : (k : Kind) → kindNumber k < 256 ^ 4

@@ -11,14 +11,10 @@ use Rattle.card.specs.Fields.{Card, sizeOf, largestBody, largestFields}
 use Rattle.card.specs.Made.{fieldsIn}
 use Rattle.card.proofs.Sizes.{size-most}
 use Rattle.card.proofs.Packed.{length-fields, packed-most}
+use Rattle.contents.proofs.Cards.{AllSized}
 use Rattle.contents.specs.Contents.{Deck, headerSize, entrySize, entryAt, mostCards, largestDeck}
 use Rattle.layout.specs.Layout.{entryFor, entriesFrom, contentsOf, kindsIn, bodiesOf, deckOf}
 use Rattle.layout.specs.Packed.{fieldsOf}
-
--- each body has the size of its kind
-abbrev pub AllSized : Version → List Card → Type 0
-AllSized v [] = Unit
-AllSized v (c ∷ cards) = (length (c .body) ≡ sizeOf v (c .kind)) × AllSized v cards
 
 pub length-entry : (v : Version) (kind : Kind) (at : ℕ) → length (entryFor v kind at) ≡ entrySize
 length-entry v kind at = simp (length-append, length-bytes)

@@ -1,13 +1,12 @@
 -- An accepted deck is the layout of its cards, which are at most 256 and have their kinds' sizes: each number that was read is the bytes that
 -- stand there, each body is what it was taken from, and nothing is left over behind the last one.
-use mathlib.Core.Path.{_≡_, refl, sym, ap, subst, _∙_}
+use mathlib.Core.Path.{_≡_, refl, sym, ap, _∙_}
 use mathlib.Core.List.{List, [], _++_, append-assoc}
 use Prim.Native.Nat.{ℕ, zero, suc, _+_, _≤_}
 use native.Mathlib.Omega.{arith}
 use borrow.Author.Tests.{eqb-true}
 use lib.Dec.{eqb}
-use lib.ListN.{length, take, drop, length-drop, drop-of-length-le}
-use lib.Seq.{length-take-le}
+use lib.ListN.{length, take, drop, drop-of-length-le}
 use Rattle.words.proofs.Written.{Bytes}
 use Rattle.words.proofs.Standing.{stands, number-stands}
 use Rattle.rows.specs.Rows.{pass}
@@ -18,21 +17,13 @@ use Rattle.version.proofs.Sizes.{number-of-version}
 use Rattle.card.specs.declared.Kind.{Kind}
 use Rattle.card.specs.Fields.{Card, kindNumber, sizeOf}
 use Rattle.contents.specs.Contents.{Deck, entryAt, mostCards, versionWord, countOf, entryIn, cardsFrom, deckIn}
-use Rattle.contents.proofs.Cards.{entry-means, entry-inside, one-more, no-more}
+use Rattle.contents.proofs.Cards.{AllSized, sized-from, entry-means, one-more, no-more}
 use Rattle.contents.proofs.Opened.{opened-to}
 use Rattle.contents.proofs.Sizes.{few-cards}
 use Rattle.layout.specs.Layout.{entryFor, entriesFrom, kindsIn, bodiesOf, deckOf}
-use Rattle.layout.proofs.Sizes.{AllSized}
 use Rattle.layout.proofs.KindNumbers.{number-of-kind}
 
 -- ---- the sizes
-
-pub sized-from : (v : Version) (deck : List ℕ) (left i at : ℕ) (cards : List Card) → cardsFrom v deck left i at ≡ pass cards → AllSized v cards
-sized-from v deck zero i at cards h = subst (AllSized v) (sym (no-more v deck i at cards h)) tt
-sized-from v deck (suc left) i at cards h =
-    let m = one-more v deck left i at cards h in
-    let room : sizeOf v (m .kind) ≤ length (drop at deck) = simp length-drop (omega (arith, entry-inside v deck i at (m .kind) (m .entry))) in
-    subst (AllSized v) (sym (m .cards-is)) (length-take-le (sizeOf v (m .kind)) (drop at deck) room, sized-from v deck left (i + 1) (at + sizeOf v (m .kind)) (m .rest) (m .others))
 
 pub cards-sized : (deck : List ℕ) (d : Deck) → deckIn deck ≡ pass d → (length (d .cards) ≤ mostCards) × AllSized (d .version) (d .cards)
 cards-sized deck d h =

@@ -14,7 +14,7 @@ use Rattle.kepler.specs.Kepler.{keplerOf}
 use Rattle.card.specs.Fields.{Card, problemSize, givenSize, problemOf, sizeOf}
 use Rattle.card.proofs.Packed.{made-size}
 use Rattle.contents.specs.Contents.{mostCards}
-use Rattle.layout.proofs.Sizes.{AllSized}
+use Rattle.contents.proofs.Cards.{AllSized}
 use Rattle.predicted.specs.Predicted.{cardOf}
 use Rattle.problems.specs.Problems.{cardsFor, deckFrom, predictedDeck}
 use Rattle.problems.proofs.Answering.{some}
