@@ -2,7 +2,7 @@
 use mathlib.Core.Path.{refl}
 use Rattle.coincidence.specs.Coincidence.{Fixes}
 use Rattle.coincidence.proofs.Laws.{one-result, one-answer}
-use Rattle.version.proofs.Theorems.{stated-once}
+use Rattle.version.proofs.Theorems.{named-once, given-once}
 use Rattle.version.proofs.Version.number.Reads as version-number
 use Rattle.version.proofs.Version.number.Kinds as version-number-kinds
 use Rattle.version.proofs.Version.form.Reads as version-form
@@ -24,7 +24,7 @@ pub version-tag-fixes : Fixes 0 version-tag-kinds.ps version-tag-kinds.r version
 version-tag-fixes κs a x y v w p q = (one-result p q, refl)
 
 pub named-fixes : Fixes 0 named-kinds.ps named-kinds.r named.Learnt
-named-fixes κs a x y v w p q = (one-answer (stated-once 31) x y p q, refl)
+named-fixes κs a x y v w p q = (one-answer named-once x y p q, refl)
 
 pub given-fixes : Fixes 0 given-kinds.ps given-kinds.r given.Learnt
-given-fixes κs a x y v w p q = (one-answer (stated-once 42) x y p q, refl)
+given-fixes κs a x y v w p q = (one-answer given-once x y p q, refl)

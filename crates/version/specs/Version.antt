@@ -41,3 +41,10 @@ versionGiven number form =
 abbrev pub stated : (k : ℕ) → Stated → Checked Version
 stated k (state.Version v) = pass v
 stated k state.Unknown = refuse k
+
+-- The deck 1: what a number says of a deck; and Writing a deck 1: what number and form say of one that is to be written
+abbrev pub namedSaid : Stated → Checked Version
+namedSaid a = stated 31 a
+
+abbrev pub givenSaid : Stated → Checked Version
+givenSaid a = stated 42 a

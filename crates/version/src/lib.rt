@@ -3,7 +3,7 @@
 //
 // Every function here is proved and total, and the crate assumes nothing.
 ghost use mathlib.Core.Path.{_≡_};
-ghost use Rattle.version.specs.Version.{versionNumber, formNumber, tagSize, versionOf, versionGiven, stated};
+ghost use Rattle.version.specs.Version.{versionNumber, formNumber, tagSize, versionOf, versionGiven, namedSaid, givenSaid};
 
 // In version 1 a card has neither object nor epoch, in version 2 it has both.
 pub enum Version {
@@ -54,7 +54,7 @@ pub const TAG: usize = 4 + 8;
 
 // The version that has this number.
 pub fn named(number: u32) -> Stated
-    ensures { λ r. ⌜ stated 31 r ≡ versionOf number ⌝ }
+    ensures { λ r. ⌜ namedSaid r ≡ versionOf number ⌝ }
 {
     match number {
         1 => Stated::Version(Version::One),
@@ -65,7 +65,7 @@ pub fn named(number: u32) -> Stated
 
 // The version that is given for a deck, where what goes into it has that version's form.
 pub fn given(number: u32, form: u32) -> Stated
-    ensures { λ r. ⌜ stated 42 r ≡ versionGiven number form ⌝ }
+    ensures { λ r. ⌜ givenSaid r ≡ versionGiven number form ⌝ }
 {
     let Stated::Version(version) = named(number) else {
         return Stated::Unknown;
