@@ -15,15 +15,19 @@ returns : tie.Need-returns
 unfolding must onward deckIn
 returns c = rw (lt-leb headerSize (length (c .before .before .args .deck .now)) (c .if1 .taken)) refl
 
+-- what the deck's first word states
+word : (c : tie.After-named) → versionOf (versionWord (c .before .before .before .before .args .deck .now)) ≡ stated 31 (c .named .result)
+word c = ap versionOf (sym (c .before .half .ensures)) ∙ sym (c .named .ensures)
+
 returns-2 : tie.Need-returns-2
 unfolding must onward deckIn
-returns-2 c = rw (le-leb headerSize (length (c .before .before .before .before .before .before .args .deck .now)) (c .before .before .before .before .if1 .left), ← c .before .before .before .half .ensures, ← c .before .before .named .ensures, c .enum-told .given .1) refl
+returns-2 c = rw (le-leb headerSize (length (c .before .before .before .before .before .before .args .deck .now)) (c .before .before .before .before .if1 .left), word (c .before .before), c .enum-told .given .1) refl
 
 -- past the version, the row as it was found
 counted : (c : tie.After-half2) → let deck = c .before .before .before .before .before .before .before .before .args .deck .now in let v = c .before .before .version .given .0 .0 in let n = c .half2 .result in
     deckIn deck ≡ must (leb n mostCards) 32 (must (leb (entryAt n) (length deck)) 33 (withVersion v (cardsFrom v deck n 0 (entryAt n))))
 unfolding must onward deckIn
-counted c = rw (le-leb headerSize (length (c .before .before .before .before .before .before .before .before .args .deck .now)) (c .before .before .before .before .before .before .if1 .left), ← c .before .before .before .before .before .half .ensures, ← c .before .before .before .before .named .ensures, c .before .before .version .given .1, ← c .half2 .ensures) refl
+counted c = rw (le-leb headerSize (length (c .before .before .before .before .before .before .before .before .args .deck .now)) (c .before .before .before .before .before .before .if1 .left), word (c .before .before .before .before), c .before .before .version .given .1, ← c .half2 .ensures) refl
 
 returns-3 : tie.Need-returns-3
 unfolding must onward
