@@ -88,9 +88,12 @@ parts question answer = record { question = question; answer = answer }
 abbrev pub partsOf : Version → Kind → (body : List ℕ) → Parts
 partsOf v kind body = parts (take questionSize body) (take (answerSize kind) (drop (answerAt v kind) body))
 
--- Writing a deck 2: the bytes of a problem as it is given, with object and epoch where the version has them
+-- Writing a deck 2: the bytes of a problem as it is given, with object and epoch where the version has them; and of the largest
 abbrev pub givenSize : Version → ℕ
 givenSize v = problemSize + tagSize v
+
+abbrev pub largestGiven : ℕ
+largestGiven = problemSize + largestTag
 
 -- Writing a deck 3: the bytes of a card's fields without a spare: those behind the problem but for object and epoch, where a transfer's way stands in
 -- the spare's place; those with them; all; and of the largest

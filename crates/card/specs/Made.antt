@@ -1,5 +1,5 @@
 -- A card's body from its fields, and the card that a problem and Kepler's answer make: RULES, The deck and Writing a deck. A problem is given as
--- the 68 bytes that stand before the spare. Definitions only.
+-- the 68 bytes that stand before the spare, and object and epoch as theirs. Definitions only.
 use Prim.Native.Nat.{ℕ, _+_}
 use mathlib.Core.List.{List, [], _∷_, _++_, map}
 use lib.ListN.{take, drop}

@@ -23,13 +23,15 @@ const SPARE_SIZE: usize = 4;
 pub const QUESTION: usize = PROBLEM + SPARE_SIZE;
 
 // The bytes of what a card answers: of a solved one, which has the most, of a refused one with its last
-// spare, and of a transfer; and those of a body and of its fields without a spare, at most: a solved card's
-// in version 2.
+// spare, and of a transfer; and those of a problem as it is given, of a body, and of its fields without a
+// spare, at most: a solved card's in version 2.
 const ANSWER: usize = 56;
 
 const REFUSED_ANSWER: usize = 8;
 
 const TRANSFER_ANSWER: usize = 32;
+
+pub const GIVEN: usize = PROBLEM + version::TAG;
 
 pub const BODY: usize = QUESTION + ANSWER + version::TAG;
 

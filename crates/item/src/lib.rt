@@ -7,7 +7,8 @@ ghost use mathlib.Core.Path.{_≡_};
 ghost use Rattle.pieces.specs.Pieces.{putIn, endIn, Put};
 ghost use Rattle.item.specs.Item.{kindWord, placedLine};
 
-// `card PLACE KIND OBJECT EPOCH VERDICT`, from index at on, with `-` twice where there are no object and epoch. Answers where it ends.
+// `card PLACE KIND OBJECT EPOCH VERDICT`, from index at on, with `-` twice where there are no object and
+// epoch. Answers where it ends.
 pub fn line(place: u32, kind: Kind, tag: Tag, verdict: u32, page: &mut [u8], at: usize) -> usize
     ensures { λ r. ⌜ r ≡ endIn (now (page .entry)) at (placedLine place kind tag verdict) ⌝ }
     ensures { λ r. ⌜ now (page .exit) ≡ putIn (now (page .entry)) at (placedLine place kind tag verdict) ⌝ }

@@ -36,6 +36,11 @@ packed-means v kinds fields {d} h =
     let is : _≡_ {A = Deck} (record { version = v; cards = C .0 }) d = pass-once (C .2) in
     (leb-true (length kinds) mostCards (T .0), sym (ap (λ (e : Deck). e .version) is), C .1 ∙ ap (λ (e : Deck). pass (e .cards)) is)
 
+-- 42 comes first: where no version is given, the cards may be any
+pub none-finished : (number form : ℕ) (kinds fields : List ℕ) → versionGiven number form ≡ refuse 42 → finishedDeck number form kinds fields ≡ refuse 42
+unfolding finishedDeck onward
+none-finished number form kinds fields e = rw e refl
+
 pub finished-means : (number form : ℕ) (kinds fields : List ℕ) {d : Deck} → finishedDeck number form kinds fields ≡ pass d → (length kinds ≤ mostCards) × (versionGiven number form ≡ pass (d .version)) × (packedCards (d .version) kinds fields ≡ pass (d .cards))
 unfolding finishedDeck
 finished-means number form kinds fields {d} h =

@@ -26,8 +26,8 @@ pub enum Written {
     Refused(Reason),
 }
 
-// Puts version, count and entries of a deck of cards with these kinds into out from the first byte on, as far as
-// out goes: the entries up to the first number that names no kind, and nothing for more than 256
+// Puts version, count and entries of a deck of cards with these kinds into out from the first byte on, as
+// far as out goes: the entries up to the first number that names no kind, and nothing for more than 256
 // kinds. Answers where it ends.
 pub fn put_contents(version: Version, kinds: &[u32], out: &mut [u8]) -> usize
     ensures { λ r. ⌜ r ≡ endIn (now (out .entry)) 0 (contentsFor version (now (kinds .entry))) ⌝ }

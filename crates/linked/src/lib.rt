@@ -76,9 +76,8 @@ pub extern "C" fn tailfiddle_check(deck: &[u8], verdicts: &mut [u32]) -> f64
 }
 
 // Writes the deck of these problems, which have this form (0: of 68 bytes each, 1: of 80, with object and
-// epoch), in this version at the front of the buffer. Where it is written
-// the answer is 0, and `size` becomes the deck's length; else the refusal's number, and buffer and
-// `size` stay as they were lent.
+// epoch), in this version at the front of the buffer. Where it is written the answer is 0, and `size`
+// becomes the deck's length; else the refusal's number, and buffer and `size` stay as they were lent.
 #[no_mangle]
 pub extern "C" fn tailfiddle_write(
     version: u32,

@@ -5,8 +5,7 @@ use lib.Dec.{leb}
 use lib.ListN.{length, drop}
 use Rattle.words.specs.Words.{valueAt}
 use Rattle.rows.specs.Rows.{Checked, must}
-use Rattle.version.specs.Version.{largestTag}
-use Rattle.card.specs.Fields.{problemSize}
+use Rattle.card.specs.Fields.{largestGiven}
 use Rattle.contents.specs.Contents.{Deck, mostCards, readOfADeck}
 use Rattle.problems.specs.Problems.{problemDeck}
 use Rattle.copier.specs.Copy.{copyOf}
@@ -29,7 +28,7 @@ deckMade asked.Copy given = copyOf given
 
 -- how many bytes are read; of problems, one more than a deck may have, with object and epoch
 abbrev pub readOfProblems : ℕ
-readOfProblems = askedSize + (problemSize + largestTag) * (mostCards + 1)
+readOfProblems = askedSize + largestGiven * (mostCards + 1)
 
 abbrev pub readOf : Asked → ℕ
 readOf asked.Problems = readOfProblems

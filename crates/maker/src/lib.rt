@@ -38,7 +38,7 @@ fn enough(asked: Asked) -> usize
     ensures { λ r. ⌜ r ≡ readOf asked ⌝ }
 {
     match asked {
-        Asked::Problems => { ASKED + (card::PROBLEM + version::TAG) * (contents::MOST_CARDS + 1) }
+        Asked::Problems => ASKED + card::GIVEN * (contents::MOST_CARDS + 1),
         Asked::Copy => contents::LARGEST_DECK + 1,
     }
 }

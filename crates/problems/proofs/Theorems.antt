@@ -8,13 +8,13 @@ use native.Mathlib.Omega.{arith}
 use borrow.Author.Tests.{leb-true, eqb-true, le-leb}
 use lib.Dec.{leb, eqb}
 use lib.ListN.{length, take, drop, replicate, length-append, length-drop, take-append-drop, drop-of-length-le}
-use Rattle.rows.specs.Rows.{pass, must, onward}
+use Rattle.rows.specs.Rows.{pass, refuse, must, onward}
 use Rattle.rows.proofs.Laws.{pass-once, test-passed, rows-passed, onward-same}
 use Rattle.version.specs.declared.Version.{Version}
-use Rattle.version.specs.Version.{versionNumber, formNumber, tagSize, largestTag, versionGiven}
+use Rattle.version.specs.Version.{versionNumber, formNumber, tagSize, versionGiven}
 use Rattle.version.proofs.Sizes.{tag-most}
 use Rattle.kepler.specs.Kepler.{keplerOf}
-use Rattle.card.specs.Fields.{Card, problemSize, questionSize, givenSize, problemOf}
+use Rattle.card.specs.Fields.{Card, problemSize, questionSize, givenSize, largestGiven, problemOf}
 use Rattle.card.specs.Made.{cardFor}
 use Rattle.card.proofs.Given.{given-problem}
 use Rattle.card.proofs.Packed.{made-begins, made-tag}
@@ -94,6 +94,11 @@ whole v problems d h =
     let second = test-passed (eqb (length problems % givenSize v) 0) 46 (pass (deckFrom v problems)) (first .1) in
     record { few = leb-true n mostCards (first .0); none-over = eqb-true (length problems % givenSize v) 0 (second .0); is = sym (pass-once (second .1)) }
 
+-- 42 comes first: where no version is given, the problems may be any
+pub none-written : (number form : ℕ) (problems : List ℕ) → versionGiven number form ≡ refuse 42 → problemDeck number form problems ≡ refuse 42
+unfolding problemDeck onward
+none-written number form problems e = rw e refl
+
 -- what is said of a deck that was written from problems: the version is the one that was asked for, and object and epoch are those given
 pub record WrittenFrom (number form : ℕ) (problems deck : List ℕ) : Type 0 where
   pub is : Deck
@@ -134,12 +139,12 @@ always-written v n problems room h few roomy =
     rw (given-in v, is, le-leb (length (deckOf made)) room fits) refl
 
 -- 257 problems of the largest form, and any bytes behind them, are refused whatever they are
-pub too-many-read : (number form : ℕ) (read behind : List ℕ) → (problemSize + largestTag) * (mostCards + 1) ≤ length read → problemDeck number form (read ++ behind) ≡ problemDeck number form read
+pub too-many-read : (number form : ℕ) (read behind : List ℕ) → largestGiven * (mostCards + 1) ≤ length read → problemDeck number form (read ++ behind) ≡ problemDeck number form read
 unfolding problemDeck
 too-many-read number form read behind h = onward-same (versionGiven number form) (λ v. predictedDeck v (read ++ behind)) (λ v. predictedDeck v read) (λ v e. too-many v (read ++ behind) (over v (read ++ behind) (omega (arith, h, length-append read behind))) ∙ sym (too-many v read (over v read h)))
   where
-    wide : (v : Version) → givenSize v ≤ problemSize + largestTag
+    wide : (v : Version) → givenSize v ≤ largestGiven
     wide v = omega (arith, tag-most v)
 
-    over : (v : Version) (problems : List ℕ) → (problemSize + largestTag) * (mostCards + 1) ≤ length problems → mostCards < length problems / givenSize v
+    over : (v : Version) (problems : List ℕ) → largestGiven * (mostCards + 1) ≤ length problems → mostCards < length problems / givenSize v
     over v problems h = le-div-iff-mul-le (some v) .1 (le-trans (mul-le-mul-left (mostCards + 1) (wide v)) (omega (arith, h)))

@@ -39,8 +39,8 @@ fn try_plain() {
 
 // A problem with both: version 2.
 fn try_tagged() {
-    let mut space = [0u8; card::PROBLEM + version::TAG];
-    let got = stdio::read(&mut space, card::PROBLEM + version::TAG);
+    let mut space = [0u8; card::GIVEN];
+    let got = stdio::read(&mut space, card::GIVEN);
     write_in(2, 1, &space[..got], 159);
     write_in(2, 1, &space[..got], 160);
     write_in(1, 1, &space[..got], 162);

@@ -1,7 +1,7 @@
 // The verdict on a solved transfer, a card of kind 3. docs/RULES.md, Verdicts 12 to 18.
 //
-// It depends on the bytes of what the card asks and answers alone. Every function here is proved, the public one is total, and the
-// crate assumes nothing.
+// It depends on the bytes of what the card asks and answers alone. Every function here is proved, the
+// public one is total, and the crate assumes nothing.
 use arc::Departure;
 use arc::Scaled;
 use arc_entry::Start;

@@ -1,9 +1,9 @@
 // The verdict on a card. docs/RULES.md, Verdicts.
 //
 // A verdict depends on the kind and on what the card asks and answers alone, which are bytes: of no version,
-// and without object and epoch. What was sent is compared as words; what
-// is computed, is computed with the numbers that they stand for. Every function here is proved, the
-// public ones are total, and the crate assumes nothing.
+// and without object and epoch. What was sent is compared as words; what is computed, is computed with the
+// numbers that they stand for. Every function here is proved, the public ones are total, and the crate
+// assumes nothing.
 use card::Kind;
 use card::LAST_SPARE;
 use card::NUMBER;

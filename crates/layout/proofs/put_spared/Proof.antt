@@ -1,4 +1,4 @@
--- `layout::put_spared` meets its contract: problem, spare and answer, one behind the other. Fields of fewer than 68 bytes are all taken for the
+-- `layout::put_spared` meets its contract: problem, spare and the rest, one behind the other. Fields of fewer than 68 bytes are all taken for the
 -- problem.
 use mathlib.Core.Path.{_≡_, refl, sym, _∙_}
 use mathlib.Core.Bool.{Bool, true, false}
