@@ -3,6 +3,8 @@
 //
 // Every public function is proved and total: its contract is an equation with a definition of
 // `specs/`, for every input, NaN and infinities included. The crate assumes nothing.
+#![tactic(auto)]
+
 ghost use Rattle.std.specs.Prelude.{◌≡◌};
 ghost use Rattle.arc.specs.Said.{reason_number, departs};
 ghost use Rattle.arc.specs.Arc.{root_or_nan, shape_at, time_at, departure_in, velocity_at};

@@ -3,6 +3,8 @@
 //
 // The public function is proved and total: its contract is an equation with a definition of
 // `specs/`, for every input, NaN and infinities included. The crate assumes nothing.
+#![tactic(auto)]
+
 ghost use Rattle.std.specs.Prelude.{◌≡◌};
 ghost use Rattle.units.specs.Units.{radius_of, numbered};
 ghost use Rattle.arc_entry.specs.Said.{passed_number, passed_scaled, passed_start};

@@ -3,6 +3,8 @@
 //
 // What was sent is read as words, and computed with as the numbers that they stand for. Every
 // function here is proved, the public ones are total, and the crate assumes nothing.
+#![tactic(auto)]
+
 ghost use Rattle.std.specs.Prelude.{◌≡◌, ◌≤◌};
 ghost use Rattle.card.specs.Fields.{kind_of, kind_number, given_size, own_size, packed_size, size_of, answer_size, answer_at, tag_at, tag_of, number_at, vector_at, problem_of, transfer_by, transfer_of};
 ghost use Rattle.card.specs.Said.{named, asked};

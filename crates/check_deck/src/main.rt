@@ -1,5 +1,7 @@
 // Checks a deck: reads it from standard input and writes its listing. What the listing is, `listing`
 // says.
+#![tactic(auto)]
+
 ghost use Rattle.std.specs.Prelude.{◌≡◌, ◌≤◌, length};
 ghost use Rattle.io.specs.Counts.{IsPrefixLen};
 ghost use Rattle.contents.specs.Contents.{read_of_aDeck};

@@ -2,6 +2,8 @@
 // vectors, bit by bit. docs/RULES.md, Verdicts: the tests that the cards of kinds 1 and 3 share.
 //
 // Every public function is proved and total, and the crate assumes nothing.
+#![tactic(auto)]
+
 ghost use Rattle.std.specs.Prelude.{◌≡◌};
 ghost use Rattle.compared.specs.Said.{timing};
 ghost use Rattle.compared.specs.Compared.{timed_by, place_at, same_words};

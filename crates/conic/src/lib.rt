@@ -3,6 +3,8 @@
 //
 // Every public function is proved and total: its contract is an equation with a definition of
 // `specs/`, for every input, NaN and infinities included. The crate assumes nothing.
+#![tactic(auto)]
+
 ghost use Rattle.std.specs.Prelude.{◌≡◌};
 ghost use Rattle.conic.specs.Said.{input_number, reason_number, is_meant_by};
 ghost use Rattle.conic.specs.TimeAndRatio.{time_at};

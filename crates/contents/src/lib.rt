@@ -2,6 +2,8 @@
 //
 // Every public function is proved and total: an entry may be asked for by any number, with the last
 // body ended anywhere. The crate assumes nothing.
+#![tactic(auto)]
+
 ghost use Rattle.std.specs.Prelude.{◌≡◌};
 ghost use Rattle.card.specs.Said as card;
 ghost use Rattle.contents.specs.Said.{entered, listed};

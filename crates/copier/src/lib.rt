@@ -1,6 +1,8 @@
 // A deck copied: its cards written anew, with spares that are 0. docs/RULES.md, Writing a deck.
 //
 // The function here is proved and total, and the crate assumes nothing.
+#![tactic(auto)]
+
 ghost use Rattle.std.specs.Prelude.{◌≡◌, length};
 ghost use Rattle.layout.specs.Written.{length_for, buffer_after, said};
 ghost use Rattle.copier.specs.Copy.{copy_of};

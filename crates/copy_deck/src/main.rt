@@ -1,5 +1,7 @@
 // Copies a deck: reads it and writes its cards anew, with spares that are 0, or the line of its refusal.
 // What is made, `maker` says.
+#![tactic(auto)]
+
 use maker::Asked;
 
 fn main() {

@@ -4,6 +4,8 @@
 // `check` is proved and total: its answer and the verdict list afterwards are definitions of the
 // deck's bytes and the list before. A refused deck leaves the list as it was lent. The crate assumes
 // nothing.
+#![tactic(auto)]
+
 ghost use Rattle.std.specs.Prelude.{◌≡◌, ◌≤◌, ◌<◌, length, set};
 ghost use Rattle.card.specs.Fields.{size_of, parts_of};
 ghost use Rattle.contents.specs.Contents.{entry_at, most_cards, cards_from, Passes};

@@ -4,6 +4,8 @@
 //
 // Both public functions are proved and total: each contract is an equation with a definition of
 // `specs/Entry.antt`, for every input, NaN and infinities included. The crate assumes nothing.
+#![tactic(auto)]
+
 ghost use Rattle.std.specs.Prelude.{◌≡◌};
 ghost use Rattle.entry.specs.Said.{passed_inputs, passed_number, passed_scaled, passed_start};
 ghost use Rattle.entry.specs.Entry.{inputs_tested, tested_by, scaled_by, scaled_of, far_end_of, bracketed_by, start_by, entry_of, angle_entry_of};

@@ -3,6 +3,8 @@
 // Every function here is proved and total: each contract is an equation with a definition of
 // `specs/Numbers.antt`, which renders docs/RULES.md, Numbers, and holds for every input, NaN and
 // infinities included. No function has a `requires`, and the crate assumes nothing.
+#![tactic(auto)]
+
 ghost use Rattle.std.specs.Prelude.{◌≡◌};
 ghost use Rattle.exact.specs.Numbers.{is_finite, magnitude, is_near, number_of, word_of};
 

@@ -1,6 +1,8 @@
 // The line of a card in a deck's listing. docs/RULES.md, The check program's listing.
 //
 // Every function here is proved, the public one is total, and the crate assumes nothing.
+#![tactic(auto)]
+
 ghost use Rattle.std.specs.Prelude.{◌≡◌};
 ghost use Rattle.pieces.specs.Pieces.{put_in, end_in, Put};
 ghost use Rattle.item.specs.Item.{kind_word, placed_line};

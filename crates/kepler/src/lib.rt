@@ -3,6 +3,8 @@
 //
 // `kepler` is proved and total: its contract is an equation with the definition of `specs/Kepler.antt`,
 // in which no guess, bracket or count is left open. The crate assumes nothing.
+#![tactic(auto)]
+
 ghost use Rattle.std.specs.Prelude.{◌≡◌, ◌≤◌};
 ghost use Rattle.search.specs.Said.{ended};
 ghost use Rattle.search.specs.Search.{search_of};

@@ -4,6 +4,8 @@
 //
 // `lambert` is proved and total: its contract is an equation with the definition of
 // `specs/Lambert.antt`, in which no guess, bracket or count is left open. The crate assumes nothing.
+#![tactic(auto)]
+
 ghost use Rattle.std.specs.Prelude.{◌≡◌, ◌≤◌};
 ghost use Rattle.search.specs.Said.{ended};
 ghost use Rattle.search.specs.Search.{search_of};

@@ -3,6 +3,8 @@
 //
 // Definitions and laws, contents and bodies as they are written, and the answer of every function that
 // writes a deck. Every function here is proved, the public ones are total, and the crate assumes nothing.
+#![tactic(auto)]
+
 ghost use Rattle.std.specs.Prelude.{◌≡◌, ◌≤◌, min, length};
 ghost use Rattle.pieces.specs.Pieces.{put_in, end_in, Put};
 ghost use Rattle.card.specs.declared.Kind.TheVariants.{Solved};

@@ -3,6 +3,8 @@
 //
 // A record is what one question takes: eight bytes for a root, its turns or the series, 68 for Kepler, 64
 // for Theta, 72 for a transfer. Every function here is proved and total, and the crate assumes nothing.
+#![tactic(auto)]
+
 ghost use Rattle.std.specs.Prelude.{◌≡◌};
 ghost use Rattle.pieces.specs.Pieces.{put_in, end_in, Put};
 ghost use Rattle.conic.specs.Said as conic;

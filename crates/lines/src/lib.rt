@@ -2,6 +2,8 @@
 // `roots`, `root_digits` and `series` write. docs/RULES.md, Lines.
 //
 // Every function here is proved, the public ones are total, and the crate assumes nothing.
+#![tactic(auto)]
+
 ghost use Rattle.std.specs.Prelude.{◌≡◌, ◌≤◌, min, length};
 ghost use Rattle.pieces.specs.Pieces.{Put, handed_in};
 ghost use Rattle.lines.specs.Lines.{lines_of, block_of, block_records, block_bytes, most_text};

@@ -3,6 +3,8 @@
 // What is asked and answered is bytes and single numbers, so that a caller in C needs no layout of
 // ours. A slice is a pointer and a length. All functions are proved and total, and the crate assumes
 // nothing.
+#![tactic(auto)]
+
 ghost use Rattle.std.specs.Prelude.{◌≡◌, length};
 ghost use Rattle.rows.specs.Rows.{refusal_in};
 ghost use Rattle.card.specs.Fields.{problem_of, transfer_of};

@@ -3,6 +3,8 @@
 //
 // `listing` is proved and total: what it writes is a definition of the deck's bytes. The crate
 // assumes nothing.
+#![tactic(auto)]
+
 ghost use Rattle.std.specs.Prelude.{◌≡◌, length};
 ghost use Rattle.rows.specs.Rows.{pass};
 ghost use Rattle.pieces.specs.Pieces.{Put, handed_in};

@@ -3,6 +3,8 @@
 //
 // Every function here is proved safe and to end. What is read and written is no part of a contract;
 // that the reply is the definition's is proved where it is written.
+#![tactic(auto)]
+
 ghost use Rattle.std.specs.Prelude.{◌≡◌, ◌≤◌, length};
 ghost use Rattle.io.specs.Counts.{IsPrefixLen};
 ghost use Rattle.layout.specs.Written.{length_for, buffer_after, said};

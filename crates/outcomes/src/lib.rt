@@ -1,6 +1,8 @@
 // The lines of outcomes, as `predict`, `turn` and `transfer` write them. docs/RULES.md, Lines.
 //
 // Every function here is proved, the public ones are total, and the crate assumes nothing.
+#![tactic(auto)]
+
 ghost use Rattle.std.specs.Prelude.{◌≡◌};
 ghost use Rattle.pieces.specs.Pieces.{put_in, end_in, Put};
 ghost use Rattle.conic.specs.Said as conic;

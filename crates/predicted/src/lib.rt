@@ -2,6 +2,8 @@
 // a deck 2.
 //
 // Every function here is proved, `put` is total, and the crate assumes nothing.
+#![tactic(auto)]
+
 ghost use Rattle.std.specs.Prelude.{◌≡◌, ◌≤◌, length};
 ghost use Rattle.pieces.specs.Pieces.{Put};
 ghost use Rattle.words.specs.Words.{words_bytes};

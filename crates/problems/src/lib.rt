@@ -2,6 +2,8 @@
 // Writing a deck.
 //
 // Every function here is proved, `write` is total, and the crate assumes nothing.
+#![tactic(auto)]
+
 ghost use Rattle.std.specs.Prelude.{◌≡◌, ◌/◌, ◌≤◌, length};
 ghost use Rattle.rows.specs.Rows.{pass};
 ghost use Rattle.pieces.specs.Pieces.{Put};

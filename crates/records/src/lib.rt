@@ -4,6 +4,8 @@
 //
 // Every function here is proved safe and to end. What is read and written is no part of a contract;
 // that a block of lines is the definition's is proved where it is written.
+#![tactic(auto)]
+
 ghost use Rattle.std.specs.Prelude.{◌≡◌, ◌≤◌, length};
 ghost use Rattle.lines.specs.Lines.{lines_of, most_block, most_blocks, most_text};
 

@@ -2,6 +2,8 @@
 // docs/RULES.md, Writing a deck 8 and The check program's listing 5.
 //
 // Every function here is proved and total, and the crate assumes nothing.
+#![tactic(auto)]
+
 ghost use Rattle.std.specs.Prelude.{◌≡◌};
 ghost use Rattle.pieces.specs.Pieces.{put_in, end_in};
 ghost use Rattle.layout.specs.Written.{said};

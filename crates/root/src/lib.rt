@@ -3,6 +3,8 @@
 //
 // Every function here is proved, and the crate assumes nothing. `root` and `sheet_after` are total; the
 // helpers below them are private.
+#![tactic(auto)]
+
 ghost use Rattle.std.specs.Prelude.{◌≡◌};
 ghost use Rattle.root.specs.Root.{root_of};
 ghost use Rattle.root.specs.Said.{reason_number, said};

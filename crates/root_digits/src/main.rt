@@ -1,5 +1,7 @@
 // Takes roots by hand: reads binary64 words, eight bytes each, and writes for each the turns on paper
 // and the root. What the lines are, `line` says.
+#![tactic(auto)]
+
 use line::Question;
 
 fn main() {

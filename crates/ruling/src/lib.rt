@@ -2,6 +2,8 @@
 // The deck and Writing a deck.
 //
 // Every function here is proved and total, and the crate assumes nothing.
+#![tactic(auto)]
+
 ghost use Rattle.std.specs.Prelude.{◌≡◌};
 ghost use Rattle.ruling.specs.Said.{fault_number, reason_number, said, number_in};
 

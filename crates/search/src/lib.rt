@@ -4,6 +4,8 @@
 // What the time of a guess is, is the caller's; the caller's loop makes the guesses with the
 // functions here, and its contract cites `search_of` of `specs/Search.antt`. Every function is
 // proved and total, NaN and infinities included, and the crate assumes nothing.
+#![tactic(auto)]
+
 ghost use Rattle.std.specs.Prelude.{◌≡◌};
 ghost use Rattle.search.specs.Search.{limit_allowed, within, first_guess, narrowed_by, line_through, inside, middle_of, choose, next_guess};
 ghost use Rattle.search.specs.Said.{said};

@@ -1,5 +1,7 @@
 // Works C2 and C3: reads binary64 words, eight bytes each, and writes a line for each. What a line
 // is, `line` says.
+#![tactic(auto)]
+
 use line::Question;
 
 fn main() {

@@ -2,6 +2,8 @@
 // write them; and the line of a refusal, which `series` has too. docs/RULES.md, Lines.
 //
 // Every function here is proved, the public ones are total, and the crate assumes nothing.
+#![tactic(auto)]
+
 ghost use Rattle.std.specs.Prelude.{◌≡◌, ◌^◌, ◌≤◌, ◌<◌};
 ghost use Rattle.std.specs.Float.{binary64};
 ghost use Rattle.exact.specs.Numbers.{steps};

@@ -6,6 +6,8 @@
 // into a short buffer, as 257, and as 257 in version 2, and fields that are all 0 as a card of kind 3. A line
 // is written for each list or buffer of which a part is lent: the refusal's number (0: none), and how many
 // of its places still have the value 97 that all had.
+#![tactic(auto)]
+
 ghost use Rattle.std.specs.Prelude.{◌≤◌};
 
 use apart::Apart;

@@ -1,6 +1,8 @@
 // Tries refusal 39, which `check_deck` can't reach, and what becomes of the list: the deck on standard
 // input is checked with lists of 0 to 4 places, each a part of one with five, and a line is written
 // for each: the room, the number of the refusal (0: accepted), and the five places afterwards.
+#![tactic(auto)]
+
 ghost use Rattle.std.specs.Prelude.{◌≤◌};
 
 use deck::Answer;

@@ -1,6 +1,8 @@
 // The bytes of a number, the lowest first, put into a lent buffer. docs/RULES.md, The deck.
 //
 // Every function here is proved, `put` is total, and the crate assumes nothing.
+#![tactic(auto)]
+
 ghost use Rattle.std.specs.Prelude.{◌≡◌, ◌+◌, ◌≤◌, min, length};
 ghost use Rattle.std.proofs.lemmas.List.Edits.{sets};
 ghost use Rattle.pieces.specs.Pieces.{put_in, end_in, Put};

@@ -2,6 +2,8 @@
 //
 // Both functions are proved safe and to end. What is read and written is `io`'s, and no part of a
 // contract.
+#![tactic(auto)]
+
 ghost use Rattle.std.specs.Prelude.{◌≤◌};
 ghost use Rattle.io.specs.Counts.{IsPrefixLen};
 

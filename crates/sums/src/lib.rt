@@ -1,6 +1,8 @@
 // The line of C2 and C3 at z, as `series` writes it. docs/RULES.md, Lines 7.
 //
 // The function here is proved and total, and the crate assumes nothing.
+#![tactic(auto)]
+
 ghost use Rattle.std.specs.Prelude.{◌≡◌};
 ghost use Rattle.pieces.specs.Pieces.{put_in, end_in};
 ghost use Rattle.sums.specs.Sums.{sums_at, sums_line};

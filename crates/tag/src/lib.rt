@@ -2,6 +2,8 @@
 // listing 2.
 //
 // Every function here is proved and total, and the crate assumes nothing.
+#![tactic(auto)]
+
 ghost use Rattle.std.specs.Prelude.{◌≡◌};
 ghost use Rattle.pieces.specs.Pieces.{put_in, end_in};
 ghost use Rattle.tag.specs.Tag.{epoch_of, tag_with, tag_text};

@@ -2,6 +2,8 @@
 // pieces do. docs/RULES.md, Text.
 //
 // Every function here is proved, the public ones are total, and the crate assumes nothing.
+#![tactic(auto)]
+
 ghost use Rattle.std.specs.Prelude.{◌≡◌, ◌<◌};
 ghost use Rattle.pieces.specs.Pieces.{put_in, end_in};
 ghost use Rattle.text.specs.Text as text;

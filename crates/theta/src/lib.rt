@@ -2,6 +2,8 @@
 //
 // `theta` is proved and total: its contract is an equation with the definition of `specs/Theta.antt`.
 // The crate assumes nothing.
+#![tactic(auto)]
+
 ghost use Rattle.std.specs.Prelude.{◌≡◌};
 ghost use Rattle.conic.specs.Said.{said, arrived};
 ghost use Rattle.theta.specs.Theta.{turned_state, reached_state, theta_of};

@@ -2,6 +2,8 @@
 //
 // It depends on the bytes of what the card asks and answers alone. Every function here is proved, the
 // public one is total, and the crate assumes nothing.
+#![tactic(auto)]
+
 ghost use Rattle.std.specs.Prelude.{◌≡◌};
 ghost use Rattle.rows.specs.Rows.{refusal_in};
 ghost use Rattle.arc_entry.specs.Said.{passed_start};

@@ -4,6 +4,8 @@
 //
 // Every public function is proved and total: its contract is an equation with a definition of
 // `specs/`, for every input, NaN and infinities included. The crate assumes nothing.
+#![tactic(auto)]
+
 ghost use Rattle.std.specs.Prelude.{◌≡◌};
 ghost use Rattle.units.specs.Units.{by_place, finite_from, given_tested, is_usable, radius_of, unit_of};
 ghost use Rattle.units.specs.Said.{given_said, length_said, unit_said};

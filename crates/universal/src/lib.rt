@@ -3,6 +3,8 @@
 //
 // Every public function is proved and total: its contract is an equation with a definition of
 // `specs/`, for every input, NaN and infinities included. The crate assumes nothing.
+#![tactic(auto)]
+
 ghost use Rattle.std.specs.Prelude.{◌≡◌};
 ghost use Rattle.universal.specs.Functions.{quartered, doubled_once, functions_at, or_nans, time_of, ratio_of};
 ghost use Rattle.universal.specs.Said.{valued};

@@ -2,6 +2,8 @@
 // and Unfolding.
 //
 // Every function here is proved and total, and the crate assumes nothing.
+#![tactic(auto)]
+
 ghost use Rattle.std.specs.Prelude.{◌≡◌};
 ghost use Rattle.vectors.specs.Vectors.{all_finite, multiple, combined, dot, over};
 

@@ -4,6 +4,8 @@
 // and without object and epoch. What was sent is compared as words; what is computed, is computed with the
 // numbers that they stand for. Every function here is proved, the public ones are total, and the crate
 // assumes nothing.
+#![tactic(auto)]
+
 ghost use Rattle.std.specs.Prelude.{◌≡◌};
 ghost use Rattle.rows.specs.Rows.{refusal_in};
 ghost use Rattle.conic.specs.Said as conic;

@@ -2,6 +2,8 @@
 // object and epoch take on a card. docs/RULES.md, The deck and Writing a deck.
 //
 // Every function here is proved and total, and the crate assumes nothing.
+#![tactic(auto)]
+
 ghost use Rattle.std.specs.Prelude.{◌≡◌};
 ghost use Rattle.version.specs.Version.{version_number, form_number, tag_size, version_of, version_given, named_said, given_said};
 

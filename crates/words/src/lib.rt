@@ -1,6 +1,8 @@
 // Little-endian words in a slice of bytes, read and written.
 //
 // Every function here is proved, the public ones are total, and the crate assumes nothing.
+#![tactic(auto)]
+
 ghost use Rattle.std.specs.Prelude.{◌≡◌, ◌+◌, ◌^◌, ◌≤◌, ◌<◌, length, drop};
 ghost use Rattle.pieces.specs.Pieces.{put_in, end_in};
 ghost use Rattle.spelled.specs.Spelled.{bytes_of};

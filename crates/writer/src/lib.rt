@@ -2,6 +2,8 @@
 //
 // Nothing is computed from a card's fields. Every function here is proved, `write` is total, and the
 // crate assumes nothing.
+#![tactic(auto)]
+
 ghost use Rattle.std.specs.Prelude.{◌≡◌, List, ◌≤◌, length};
 ghost use Rattle.rows.specs.Rows.{pass, onward};
 ghost use Rattle.pieces.specs.Pieces.{Put};

@@ -8,8 +8,7 @@ use lib.ListN.{length, take}
 use lib.Seq.{sets}
 use Rattle.pieces.specs.Pieces.{put_in, end_in}
 use Rattle.pieces.proofs.Puts.{sets_beyond, as_far}
-use Rattle.pieces.proofs.put.Statement.{statement}
-use Rattle.pieces.proofs.put.Tie as tie
+use Rattle.pieces.proofs.put.Goals as goal
 
 beyond : (l : List ℕ) (at : ℕ) (s : List ℕ) → length l < at → (length l ≡ end_in l at s) × (l ≡ put_in l at s)
 unfolding end_in put_in
@@ -20,15 +19,8 @@ within l at s n h e copied =
     let far = as_far l at s h in
     (ap (λ (k : ℕ). at + k) e ∙ far.ends, copied ∙ ap (λ (k : ℕ). sets l at (take k s)) e ∙ far.holds)
 
-returns : tie.Need-returns
-returns c = beyond c.before.before.before.args.out.now c.before.before.before.args.at c.before.before.before.args.s.now (omega arith)
+pub returns-then-out-at : goal.returns-then-out-at
+returns-then-out-at c = let both = beyond c.args.out.now c.args.at c.args.s.now (omega arith) in record { value = both.0; out_after = both.1 }
 
-returns-2 : tie.Need-returns-2
-returns-2 c =
-    let at1 = c.before.before in
-    let at2 = at1.before.before in
-    let at3 = at2.before.before.before.before in
-    within at3.args.out.now at3.args.at at3.args.s.now at2.least.result (omega arith) at2.least.ensures at1.copy.ensures
-
-pub put_spec : {M : Type 1} → statement M
-put_spec = tie.close (tie.spec returns (λ c. search rules) (λ c κs. search rules) (λ c κs. search rules) (λ c. search rules) (λ c. search rules) returns-2)
+pub returns : goal.returns
+returns c = let both = within c.args.out.now c.args.at c.args.s.now c.least-n.result (omega arith) c.least-n.ensures c.copy.ensures in record { value = both.0; out_after = both.1 }

@@ -3,12 +3,8 @@ use mathlib.Core.Path.{ap}
 use borrow.Author.Rules.{rules}
 use lib.Ieee.{Float, le}
 use Rattle.exact.specs.Numbers.{tolerance, is_near}
-use Rattle.exact.proofs.near.Statement.{statement}
-use Rattle.exact.proofs.near.Tie as tie
+use Rattle.exact.proofs.near.Goals as goal
 
-returns : tie.Need-returns
+pub returns : goal.returns
 unfolding is_near
 returns c = ap (λ (z : Float). le z tolerance) c.absolute.ensures
-
-pub near_spec : {M : Type 1} → statement M
-near_spec = tie.close (tie.spec (λ c κs. search rules) returns)

@@ -13,8 +13,7 @@ use Rattle.exact.proofs.Steps.{same_number}
 use Rattle.exact.proofs.Order.{place, le_place}
 use Rattle.exact.proofs.Arithmetic.{neg_number}
 use Rattle.exact.proofs.Zero.{nought_number, nought_steps, nought_plus, zero_plus}
-use Rattle.exact.proofs.absolute.Statement.{statement}
-use Rattle.exact.proofs.absolute.Tie as tie
+use Rattle.exact.proofs.absolute.Goals as goal
 
 -- a number not minus and at most 0 is 0
 zero_itself : (x : Float) → Number binary64 x → is_minus x ≡ false → T (le x nought) → x ≡ nought
@@ -52,11 +51,8 @@ kept (inf false) h t = refl
 kept (fin true m e) h t = absurd (subst T t (minus_below (fin true m e) (h, tt) refl))
 kept (fin false m e) h t = refl
 
-returns : tie.Need-returns
-returns c = from_zero c.before.args.x (passed c.before.well-formed.0.1) c.if1.true
+pub returns-then-x : goal.returns-then-x
+returns-then-x c = from_zero c.args.x (passed c.well_formed.0.1) c.if-x.true
 
-returns-2 : tie.Need-returns-2
-returns-2 c = kept c.before.args.x (passed c.before.well-formed.0.1) c.if1.false
-
-pub absolute_spec : {M : Type 1} → statement M
-absolute_spec = tie.close (tie.spec returns returns-2)
+pub returns-else-x : goal.returns-else-x
+returns-else-x c = kept c.args.x (passed c.well_formed.0.1) c.if-x.false

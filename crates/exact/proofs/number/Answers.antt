@@ -8,8 +8,7 @@ use lib.Ieee.{Float, nan, inf, fin, binary64, div, is_nan, of_bits}
 use lib.Ieee.Bits.{nan_bits_is, nan_bits_above}
 use Rattle.exact.specs.Numbers.{number_of, ◌⊘◌}
 use Rattle.exact.proofs.Words.{no_nan_word}
-use Rattle.exact.proofs.number.Statement.{statement}
-use Rattle.exact.proofs.number.Tie as tie
+use Rattle.exact.proofs.number.Goals as goal
 
 is_nan_lem : (x : Float) → is_nan x ≡ true → x ≡ nan
 unfolding is_nan
@@ -21,11 +20,8 @@ nan_word : (w : ℕ) → 0x7ff0_0000_0000_0000 < w % 0x8000_0000_0000_0000 → n
 unfolding div of_bits
 nan_word w h = sym (is_nan_lem (number_of w) (sym (nan_bits_is binary64 w) ∙ nan_bits_above binary64 w ∙ lt-ltb 0x7ff0_0000_0000_0000 (w % 0x8000_0000_0000_0000) h))
 
-float-from-bits-result : tie.Need-float-from-bits-result
-float-from-bits-result c = no_nan_word binary64 c.before.args.w c.if1.false
+pub float_from_bits-result : goal.float_from_bits-result
+float_from_bits-result c = no_nan_word binary64 c.args.w c.if-w-gt9218868437227405312.false
 
-returns : tie.Need-returns
-returns c = nan_word c.before.args.w c.if1.true
-
-pub number_spec : {M : Type 1} → statement M
-number_spec = tie.close (tie.spec float-from-bits-result returns (λ c. search rules))
+pub returns-then-w-gt9218868437227405312 : goal.returns-then-w-gt9218868437227405312
+returns-then-w-gt9218868437227405312 c = nan_word c.args.w c.if-w-gt9218868437227405312.true

@@ -7,8 +7,7 @@ use lib.Ieee.{Float, nan, inf, fin, ne, is_nan, to_bits}
 use lib.Ieee.Compare.{differs_from_itself, nan_differs}
 use Rattle.exact.specs.Numbers.{word_of}
 use Rattle.exact.proofs.Basics.{passed}
-use Rattle.exact.proofs.word.Statement.{statement}
-use Rattle.exact.proofs.word.Tie as tie
+use Rattle.exact.proofs.word.Goals as goal
 
 no_nan : (x : Float) → ne x x ≡ false → T (not (is_nan x))
 unfolding is_nan
@@ -20,11 +19,8 @@ nan_word : word_of nan ≡ 0x7ff8_0000_0000_0000
 unfolding to_bits
 nan_word = refl
 
-float-to-bits-result : tie.Need-float-to-bits-result
-float-to-bits-result c = no_nan c.before.args.x c.if1.false
+pub float_to_bits-result : goal.float_to_bits-result
+float_to_bits-result c = no_nan c.args.x c.if-x.false
 
-returns : tie.Need-returns
-returns c = sym (ap word_of (differs_from_itself c.before.args.x (passed c.if1.true)) ∙ nan_word)
-
-pub word_spec : {M : Type 1} → statement M
-word_spec = tie.close (tie.spec float-to-bits-result returns (λ c. search rules))
+pub returns-then-x : goal.returns-then-x
+returns-then-x c = sym (ap word_of (differs_from_itself c.args.x (passed c.if-x.true)) ∙ nan_word)

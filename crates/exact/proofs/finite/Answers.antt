@@ -3,8 +3,7 @@ use mathlib.Core.Path.{◌≡◌, refl, sym}
 use mathlib.Core.Bool.{true, false, true≢false}
 use lib.Ieee.{Float, nan, inf, fin, neg, div, lt, of_bits}
 use Rattle.exact.specs.Numbers.{is_finite, number_of, ◌⊘◌}
-use Rattle.exact.proofs.finite.Statement.{statement}
-use Rattle.exact.proofs.finite.Tie as tie
+use Rattle.exact.proofs.finite.Goals as goal
 
 abbrev infinity : Float
 infinity = number_of 0x3ff0_0000_0000_0000 ⊘ number_of 0
@@ -23,11 +22,8 @@ not_above (inf true) h = refl
 not_above (inf false) h = absurd (true≢false h)
 not_above (fin s m e) h = absurd (true≢false h)
 
-returns : tie.Need-returns
-returns c = above c.before.args.x c.if1.true
+pub returns-then-infinity-x : goal.returns-then-infinity-x
+returns-then-infinity-x c = above c.args.x c.if-infinity-x.true
 
-returns-2 : tie.Need-returns-2
-returns-2 c = not_above c.before.args.x c.if1.false
-
-pub finite_spec : {M : Type 1} → statement M
-finite_spec = tie.close (tie.spec returns returns-2)
+pub returns-else-infinity-x : goal.returns-else-infinity-x
+returns-else-infinity-x c = not_above c.args.x c.if-infinity-x.false
