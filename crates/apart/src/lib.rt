@@ -19,7 +19,7 @@ use ruling::Reason;
 use version::Version;
 
 // The version of a deck, how many cards it has and the bytes that their fields take, or why it is refused.
-#[derive(Drop)]
+#[derive(Clone, Copy)]
 pub enum Apart {
     Cards(Version, u32, usize),
     Refused(Reason),

@@ -13,14 +13,14 @@ use root::Answer;
 use vectors::Vector;
 
 // Which way round: through less than half a turn, or through more.
-#[derive(Drop)]
+#[derive(Clone, Copy)]
 pub enum Way {
     Short,
     Long,
 }
 
 // What is asked: from r1 to r2 in the time dt.
-#[derive(Drop)]
+#[derive(Clone, Copy)]
 pub struct Transfer {
     pub mu: f64,
     pub r1: Vector,
@@ -31,7 +31,7 @@ pub struct Transfer {
 }
 
 // The scaled transfer, in the letters of the steps.
-#[derive(Drop)]
+#[derive(Clone, Copy)]
 pub struct Scaled {
     pub t: f64,
     pub rho: f64,
@@ -43,7 +43,7 @@ pub struct Scaled {
 }
 
 // The conic's shape at z: S, k, y and g.
-#[derive(Drop)]
+#[derive(Clone, Copy)]
 struct Shape {
     s: f64,
     k: f64,
@@ -52,7 +52,7 @@ struct Shape {
 }
 
 // Why a transfer is refused.
-#[derive(Drop)]
+#[derive(Clone, Copy)]
 pub enum Reason {
     InputNotFinite,
     MuNotPositive,
@@ -87,7 +87,7 @@ impl Reason {
 }
 
 // The velocity at r1, or why there is none.
-#[derive(Drop)]
+#[derive(Clone, Copy)]
 pub enum Departure {
     Velocity(Vector),
     Refused(Reason),

@@ -24,21 +24,21 @@ const NEAREST: f64 = 9.5367431640625e-07;
 const UPPER: f64 = 36.0;
 
 // A scaled transfer with its starting bracket, or why there is none.
-#[derive(Drop)]
+#[derive(Clone, Copy)]
 pub enum Start {
     Passed(Scaled, Bracket),
     Refused(Reason),
 }
 
 // A number on the way, or why there is none.
-#[derive(Drop)]
+#[derive(Clone, Copy)]
 enum Number {
     Passed(f64),
     Refused(Reason),
 }
 
 // A scaled transfer, or why there is none.
-#[derive(Drop)]
+#[derive(Clone, Copy)]
 enum Scaling {
     Passed(Scaled),
     Refused(Reason),

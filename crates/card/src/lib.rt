@@ -56,7 +56,7 @@ pub const LAST_SPARE: usize = NUMBER + 4;
 pub const Z: usize = X;
 
 // A card's kind: a solved problem, a refused one, or a solved transfer.
-#[derive(Drop)]
+#[derive(Clone, Copy)]
 pub enum Kind {
     Solved,
     Refused,
@@ -64,14 +64,14 @@ pub enum Kind {
 }
 
 // What a number names: a kind, or none.
-#[derive(Drop)]
+#[derive(Clone, Copy)]
 pub enum Named {
     Kind(Kind),
     Unknown,
 }
 
 // What a transfer's bytes ask: a transfer, or one whose way is neither 0 nor 1.
-#[derive(Drop)]
+#[derive(Clone, Copy)]
 pub enum Asked {
     Transfer(Transfer),
     UnknownWay,

@@ -14,14 +14,14 @@ use search::Bracket;
 use vectors::Vector;
 
 // The residual of a time that is near, in seconds; or the number with which the card is rejected.
-#[derive(Drop)]
+#[derive(Clone, Copy)]
 pub enum Timed {
     Residual(f64),
     Rejected(u32),
 }
 
 // Where a vector stands in a solved card's answer: behind the unknown, or behind the first vector.
-#[derive(Drop)]
+#[derive(Clone, Copy)]
 pub enum Place {
     First,
     Second,

@@ -14,14 +14,14 @@ use vectors::Vector;
 pub mod unfolding;
 
 // A position and a velocity.
-#[derive(Drop)]
+#[derive(Clone, Copy)]
 pub struct State {
     pub r: Vector,
     pub v: Vector,
 }
 
 // A problem for Kepler.
-#[derive(Drop)]
+#[derive(Clone, Copy)]
 pub struct Problem {
     pub mu: f64,
     pub r: Vector,
@@ -31,7 +31,7 @@ pub struct Problem {
 }
 
 // The scaled problem, in the letters of the rules, with the state that unfolding starts from.
-#[derive(Drop)]
+#[derive(Clone, Copy)]
 pub struct Scaled {
     pub s: f64,
     pub alpha: f64,
@@ -62,7 +62,7 @@ const INPUTS: u32 = 8;
 const ANY_INPUT: u32 = 1;
 
 // Why a prediction is refused. A number that is not finite has its place among those given, from 0 on.
-#[derive(Drop)]
+#[derive(Clone, Copy)]
 pub enum Reason {
     InputNotFinite(u8),
     MuNotPositive,
@@ -118,7 +118,7 @@ fn input_number(place: u8) -> u32
 }
 
 // A prediction's answer. The bracket's ends come with reasons 9 and 10.
-#[derive(Drop)]
+#[derive(Clone, Copy)]
 pub enum Outcome {
     Solved { x: f64, count: u32, state: State },
     Refused(Reason, u32),

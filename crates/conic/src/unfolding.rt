@@ -11,7 +11,7 @@ use universal::Values;
 // 2^-10: the least radius ratio.
 const LEAST_RATIO: f64 = 0.0009765625;
 
-#[derive(Drop)]
+#[derive(Clone, Copy)]
 pub enum Arrival {
     State(State),
     Refused(Reason),

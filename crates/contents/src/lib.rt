@@ -24,14 +24,14 @@ pub const MOST_CARDS: usize = 256;
 pub const LARGEST_DECK: usize = HEADER + MOST_CARDS * (ENTRY + card::BODY);
 
 // What an entry says, where it stands right: its card's kind.
-#[derive(Drop)]
+#[derive(Clone, Copy)]
 pub enum Entry {
     Card(Kind),
     Refused(Reason),
 }
 
 // The version of a deck and how many cards it has, or why it is refused.
-#[derive(Drop)]
+#[derive(Clone, Copy)]
 pub enum Contents {
     Cards(Version, u32),
     Refused(Reason),

@@ -22,7 +22,7 @@ use version::Version;
 mod tally;
 
 // How many cards were accepted as solved, accepted as refused, and rejected.
-#[derive(Drop)]
+#[derive(Clone, Copy)]
 pub struct Totals {
     pub solved: u32,
     pub refused: u32,
@@ -30,13 +30,13 @@ pub struct Totals {
 }
 
 // Mean and worst of the solved cards' residuals, in seconds; absent, and not zero, where there is none.
-#[derive(Drop)]
+#[derive(Clone, Copy)]
 pub enum Residuals {
     Absent,
     Known { mean: f64, worst: f64 },
 }
 
-#[derive(Drop)]
+#[derive(Clone, Copy)]
 pub enum Answer {
     Accepted(Totals, Residuals),
     Refused(Reason),

@@ -11,7 +11,7 @@ use crate::{Answer, Residuals, Totals};
 use ruling::Verdict;
 
 // The tally so far: the sum of the residuals and the largest, over the solved cards.
-#[derive(Drop)]
+#[derive(Clone, Copy)]
 pub(crate) struct Running {
     pub solved: u32,
     pub refused: u32,

@@ -30,28 +30,28 @@ const REACH: f64 = 7.9375;
 const LARGEST_ANGLE: f64 = 6.25;
 
 // A scaled problem, or why there is none.
-#[derive(Drop)]
+#[derive(Clone, Copy)]
 pub enum Scaling {
     Passed(Scaled),
     Refused(Reason),
 }
 
 // A scaled problem with its starting bracket, or why there is none.
-#[derive(Drop)]
+#[derive(Clone, Copy)]
 pub enum Start {
     Passed(Scaled, Bracket),
     Refused(Reason),
 }
 
 // A number on the way, or why there is none.
-#[derive(Drop)]
+#[derive(Clone, Copy)]
 enum Number {
     Passed(f64),
     Refused(Reason),
 }
 
 // Whether the numbers given can be worked with, or why not.
-#[derive(Drop)]
+#[derive(Clone, Copy)]
 enum Inputs {
     Passed,
     Refused(Reason),

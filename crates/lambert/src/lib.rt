@@ -20,7 +20,7 @@ use search::{Bracket, Found, Point, Step};
 use vectors::Vector;
 
 // A transfer's answer. The bracket's ends come with reasons 9 and 10.
-#[derive(Drop)]
+#[derive(Clone, Copy)]
 pub enum Outcome {
     Solved {
         z: f64,

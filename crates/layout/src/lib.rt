@@ -21,7 +21,7 @@ use version::Version;
 pub const MOST_FIELDS: usize = contents::MOST_CARDS * card::FIELDS;
 
 // The length of the deck that was written, or why none was.
-#[derive(Drop)]
+#[derive(Clone, Copy)]
 pub enum Written {
     Deck(usize),
     Refused(Reason),

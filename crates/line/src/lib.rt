@@ -18,7 +18,7 @@ use conic::{Outcome, Problem};
 use ruling::Fault;
 
 // What is asked of each record.
-#[derive(Drop)]
+#[derive(Clone, Copy)]
 pub enum Question {
     Root,
     Kepler,

@@ -15,7 +15,7 @@ use layout::Written;
 use ruling::Reason;
 
 // What a deck is made of.
-#[derive(Drop)]
+#[derive(Clone, Copy)]
 pub enum Asked {
     Problems,
     Copy,

@@ -21,7 +21,7 @@ use version::Version;
 
 // A card: the problem and its answer, and beside the problem's numbers the words that were given for
 // them, since a NaN among them may have any payload.
-#[derive(Drop)]
+#[derive(Clone, Copy)]
 pub struct Card {
     given: [u64; 8],
     problem: Problem,
@@ -29,7 +29,7 @@ pub struct Card {
 }
 
 // The kind of a problem's card and where its body ends, or why there is none.
-#[derive(Drop)]
+#[derive(Clone, Copy)]
 pub enum Placed {
     Card(Kind, usize),
     Refused(Reason),

@@ -56,7 +56,7 @@ fn left_after(turns: u64) -> u64
 // ---- Before the turns
 
 // The number in steps, moved up by 1074 digits, is v * 2^54 * 2^(2h).
-#[derive(Drop)]
+#[derive(Clone, Copy)]
 struct Form {
     v: u64,
     h: u64,

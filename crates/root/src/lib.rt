@@ -14,7 +14,7 @@ ghost use Rattle.root.specs.Tested.{Tested};
 mod digits;
 
 // Why a root is refused.
-#[derive(Drop)]
+#[derive(Clone, Copy)]
 pub enum Reason {
     NotFinite,
     BelowZero,
@@ -32,7 +32,7 @@ impl Reason {
     }
 }
 
-#[derive(Drop)]
+#[derive(Clone, Copy)]
 pub enum Answer {
     Root(f64),
     Refused(Reason),
@@ -44,7 +44,7 @@ pub const TURNS: u64 = 54;
 // A sheet of the root on paper: the digits that are settled, the remainder, the pairs of binary
 // digits still to come, and how many these are. `pairs` has the next 27 of them, the first one
 // highest; zeros follow.
-#[derive(Drop)]
+#[derive(Clone, Copy)]
 pub struct Sheet {
     pub digits: u64,
     pub remainder: u64,
@@ -53,7 +53,7 @@ pub struct Sheet {
 }
 
 // The sheet of a number; or the number is zero, which is its own root, or is refused.
-#[derive(Drop)]
+#[derive(Clone, Copy)]
 pub enum Working {
     Sheet(Sheet),
     Zero,
@@ -85,7 +85,7 @@ pub fn sheet_after(x: f64, turns: u64) -> Working
 }
 
 // A number above zero, by its word; zero, of either sign; or why the number has no root.
-#[derive(Drop)]
+#[derive(Clone, Copy)]
 enum Case {
     Above(u64),
     Zero,

@@ -9,7 +9,7 @@ ghost use Rattle.ruling.specs.Said.{fault_number, reason_number, said, number_in
 
 // Why a card is rejected, besides the reasons for which a prediction is refused. The word that is not
 // allowed is a spare that is not 0, or a way that is neither 0 nor 1.
-#[derive(Drop)]
+#[derive(Clone, Copy)]
 pub enum Fault {
     XOutside,
     TimeOff,
@@ -19,7 +19,7 @@ pub enum Fault {
 }
 
 // A solved card's verdict 0 comes with its residual, in seconds; a refused card has none.
-#[derive(Drop)]
+#[derive(Clone, Copy)]
 pub enum Verdict {
     Solved(f64),
     Refused,
@@ -56,7 +56,7 @@ impl Verdict {
 
 // Why a deck is refused, or is not written. ListTooShort is of the verdict list, which `deck` is lent;
 // the last four are of the crates that write decks.
-#[derive(Drop)]
+#[derive(Clone, Copy)]
 pub enum Reason {
     TooShort,
     OtherVersion,

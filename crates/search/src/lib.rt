@@ -11,20 +11,20 @@ ghost use Rattle.search.specs.Search.{limit_allowed, within, first_guess, narrow
 ghost use Rattle.search.specs.Said.{said};
 
 // A guess or an end, with its time.
-#[derive(Drop)]
+#[derive(Clone, Copy)]
 pub struct Point {
     pub x: f64,
     pub time: f64,
 }
 
-#[derive(Drop)]
+#[derive(Clone, Copy)]
 pub struct Bracket {
     pub lo: Point,
     pub hi: Point,
 }
 
 // What step 5 comes to: the next guess, or a bracket with nothing left inside.
-#[derive(Drop)]
+#[derive(Clone, Copy)]
 pub enum Step {
     Guess(f64),
     Closed,
@@ -32,7 +32,7 @@ pub enum Step {
 
 // How a search ends, with its count of guesses: near the wanted time; a bracket with nothing left
 // inside; the limit reached; a time that is not finite.
-#[derive(Drop)]
+#[derive(Clone, Copy)]
 pub enum Found {
     Solved(f64, u32),
     Closed(Bracket, u32),

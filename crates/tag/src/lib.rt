@@ -9,7 +9,7 @@ ghost use Rattle.pieces.specs.Pieces.{put_in, end_in};
 ghost use Rattle.tag.specs.Tag.{epoch_of, tag_with, tag_text};
 
 // Object and epoch: absent, which is not the same as zero, or both.
-#[derive(Drop)]
+#[derive(Clone, Copy)]
 pub enum Tag {
     Absent,
     Present { object: u32, epoch: i64 },

@@ -14,14 +14,14 @@ use root::Answer;
 use vectors::Vector;
 
 // Every number given is finite; or the first place, from 0 on, of one that is not.
-#[derive(Drop)]
+#[derive(Clone, Copy)]
 pub enum Finite {
     All,
     NotAt(u8),
 }
 
 // A radius; or it is not usable; or its root was refused.
-#[derive(Drop)]
+#[derive(Clone, Copy)]
 pub enum Length {
     Measured(f64),
     Unusable,
@@ -29,7 +29,7 @@ pub enum Length {
 }
 
 // f1 and the time unit f4; or one on the way is not usable; or the root was refused.
-#[derive(Drop)]
+#[derive(Clone, Copy)]
 pub enum TimeUnit {
     Measured(f64, f64),
     Unusable,

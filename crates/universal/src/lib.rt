@@ -13,7 +13,7 @@ use crate::series::Sum;
 
 pub mod series;
 
-#[derive(Drop)]
+#[derive(Clone, Copy)]
 pub struct Functions {
     pub u0: f64,
     pub u1: f64,
@@ -22,7 +22,7 @@ pub struct Functions {
 }
 
 // The functions; or refused, since the series are.
-#[derive(Drop)]
+#[derive(Clone, Copy)]
 pub enum Values {
     Worked(Functions),
     Refused,

@@ -42,14 +42,14 @@ const ODD: [f64; 12] = [
 ];
 
 // A series worked at z; or refused, since z is not in its range.
-#[derive(Drop)]
+#[derive(Clone, Copy)]
 pub enum Sum {
     Worked(f64),
     Refused,
 }
 
 // Both sums.
-#[derive(Drop)]
+#[derive(Clone, Copy)]
 pub struct Pair {
     pub c2: f64,
     pub c3: f64,

@@ -8,14 +8,14 @@ ghost use Rattle.std.specs.Prelude.{◌≡◌};
 ghost use Rattle.version.specs.Version.{version_number, form_number, tag_size, version_of, version_given, named_said, given_said};
 
 // In version 1 a card has neither object nor epoch, in version 2 it has both.
-#[derive(Drop)]
+#[derive(Clone, Copy)]
 pub enum Version {
     One,
     Two,
 }
 
 // What numbers state: a version, or none.
-#[derive(Drop)]
+#[derive(Clone, Copy)]
 pub enum Stated {
     Version(Version),
     Unknown,

@@ -14,18 +14,14 @@ use lib.Seq.{append_snoc, take_all, drop-cons, drop_at, get_or-set_other}
 use Rattle.text.specs.Text.{digit, decimal}
 use Rattle.pieces.proofs.Puts.{renamed, wrote, both}
 use Rattle.text.proofs.Digits.{digit_before}
-use Rattle.text.proofs.led.Statement.{statement}
-use Rattle.text.proofs.led.Tie as tie
+use Rattle.text.proofs.led.Invariants.{more, Spelt}
+use Rattle.text.proofs.led.Goals as goal
 
 not_none : {n : ℕ} → 0 < n → n ≡ 0 → ⊥
 not_none h e = omega arith
 
 not_there : {i k : ℕ} → i < k → i ≡ k → ⊥
 not_there h e = omega arith
-
--- the digits of what is left: none of 0
-abbrev more : (k n : ℕ) → List ℕ
-more k n = cond (eqb n 0) [] (decimal k n)
 
 same_test : (n : ℕ) → ltb n 10 ≡ eqb (n / 10) 0
 same_test n = go (ltb n 10) refl
@@ -41,15 +37,6 @@ same_test n = go (ltb n 10) refl
 one_digit : (k n : ℕ) → decimal (suc k) n ≡ more k (n / 10) ++ (digit (n % 10) ∷ [])
 unfolding decimal
 one_digit k n = ap (λ (b : Bool). cond b [] (decimal k (n / 10)) ++ (digit (n % 10) ∷ [])) (same_test n)
-
--- the digits of n, of which there are at most `places`, behind the byte `lead`, once or more: `left` is where those found begin, and `rest` what is left of n
-record Spelt (lead places n : ℕ) (digits : List ℕ) (left rest : ℕ) : Type 0 where
-  long : length digits ≡ suc places
-  least : 1 ≤ left
-  most : left ≤ places
-  before : (i : ℕ) → i < left → get_or digits i 0 ≡ lead
-  small : rest < 10 ^ (left - 1)
-  all : decimal places n ≡ more (left - 1) rest ++ drop left digits
 
 two : (left : ℕ) {rest : ℕ} → 1 ≤ left → rest < 10 ^ (left - 1) → 0 < rest → 2 ≤ left
 two zero a b h = omega arith
@@ -106,56 +93,29 @@ finished {lead} {places} {n} {left} {rest} {digits} p h =
 part : {lead places n left rest : ℕ} {digits : List ℕ} → Spelt lead places n digits left rest → rest ≤ 0 → take (suc places - (left - 1)) (drop (left - 1) digits) ≡ lead ∷ decimal places n
 part {places = places} {left = left} {digits = digits} p h = take_all (suc places - (left - 1)) (drop (left - 1) digits) (rw (length-drop (left - 1) digits, p.long) (omega arith)) ∙ finished p h
 
-abbrev invariant-loop : tie.invariant-loop
-invariant-loop out at n lead digits₀ left₀ rest₀ digits left rest = Spelt lead 20 n digits left rest
+pub loop-rest-init : goal.loop-rest-init
+loop-rest-init c = start c.args.lead 19 c.args.n c.digit.result (omega arith) c.digit.ensures
 
-abbrev decreases-loop : tie.decreases-loop
-decreases-loop out at n lead digits₀ left₀ rest₀ digits left rest = rest
+pub overflow_sub-left : goal.overflow_sub-left
+overflow_sub-left c = omega (arith, c.loop-rest.invariant.least)
 
-digit_requires : tie.Need-digit-requires invariant-loop decreases-loop
-digit_requires c κs = omega arith
+pub bounds-digits-left : goal.bounds-digits-left
+bounds-digits-left c = omega (arith, c.loop-rest.invariant.most)
 
-array_write_digits : tie.Need-array-write-digits invariant-loop decreases-loop
-array_write_digits c = omega arith
+pub loop-rest-preserved : goal.loop-rest-preserved
+loop-rest-preserved c = turn c.loop-rest.invariant (omega arith) c.digit-in-loop-rest.ensures
 
-loop_holds : tie.Need-loop-init invariant-loop decreases-loop
-loop_holds c = start c.before.before.args.lead 19 c.before.before.args.n c.digit.result (omega arith) c.digit.ensures
+pub overflow_sub-first : goal.overflow_sub-first
+overflow_sub-first c = c.loop-rest.invariant.least
 
-sub_left : tie.Need-overflow-sub-left invariant-loop decreases-loop
-sub_left c = omega (arith, c.before.loop.invariant.least)
+pub slice_bounds-put-count : goal.slice_bounds-put-count
+slice_bounds-put-count c = omega (arith, c.loop-rest.invariant.most)
 
-digit_requires_2 : tie.Need-digit-requires-2 invariant-loop decreases-loop
-digit_requires_2 c κs = omega arith
+pub slice_bounds-put-start : goal.slice_bounds-put-start
+slice_bounds-put-start c = omega (arith, c.loop-rest.invariant.most)
 
-array_write_digits_2 : tie.Need-array-write-digits-2 invariant-loop decreases-loop
-array_write_digits_2 c = omega (arith, c.before.before.loop.invariant.most)
+pub put-requires : goal.put-requires
+put-requires c = tt
 
-loop_less : tie.Need-loop-smaller invariant-loop decreases-loop
-loop_less c = omega arith
-
-loop_again : tie.Need-loop-preserved invariant-loop decreases-loop
-loop_again c = turn c.before.before.loop.invariant (omega arith) c.digit2.ensures
-
-sub_first : tie.Need-overflow-sub-first invariant-loop decreases-loop
-sub_first c = c.before.loop.invariant.least
-
-sub_put : tie.Need-overflow-sub-put invariant-loop decreases-loop
-sub_put c = omega (arith, c.before.before.loop.invariant.most)
-
-part_put_start : tie.Need-slice-bounds-put-start invariant-loop decreases-loop
-part_put_start c = omega (arith, c.before.before.before.loop.invariant.most)
-
-part-put-end : tie.Need-slice-bounds-put-end invariant-loop decreases-loop
-part-put-end c = search rules
-
-put_requires : tie.Need-put-requires invariant-loop decreases-loop
-put_requires c κs = tt
-
-same_length : tie.Need-same-length invariant-loop decreases-loop
-same_length c = search rules
-
-returns : tie.Need-returns invariant-loop decreases-loop
-returns c = both (renamed (part c.before.before.before.before.before.before.before.loop.invariant (omega arith)) (wrote c.before.before.put.ensures))
-
-pub led_spec : {M : Type 1} → statement M
-led_spec = tie.close (tie.spec invariant-loop decreases-loop digit_requires array_write_digits loop_holds sub_left digit_requires_2 array_write_digits_2 loop_less loop_again sub_first sub_put part_put_start part-put-end put_requires same_length returns)
+pub returns : goal.returns
+returns c = let both = both (renamed (part c.loop-rest.invariant (omega arith)) (wrote (c.put.ensures.value, c.put.ensures.out_after))) in record { value = both.0; out_after = both.1 }

@@ -2,12 +2,8 @@
 use borrow.Author.Rules.{rules}
 use lib.Ieee.{round, of_bits}
 use Rattle.universal.specs.Series.{coefficients, series_of}
-use Rattle.universal.proofs.series.c3.Statement.{statement}
-use Rattle.universal.proofs.series.c3.Tie as tie
+use Rattle.universal.proofs.series.c3.Goals as goal
 
-returns : tie.Need-returns
+pub returns : goal.returns
 unfolding round of_bits coefficients series_of
 returns c = c.ranged.ensures
-
-pub c3_spec : {M : Type 1} → statement M
-c3_spec = tie.close (tie.spec (λ c κs. search rules) returns)

@@ -6,13 +6,8 @@ use native.Mathlib.Omega.{arith}
 use lib.ListN.{length, set, length-set}
 use lib.Seq.{sets}
 use Rattle.spelled.specs.Spelled.{bytes_of}
-use Rattle.spelled.proofs.spell.Statement.{statement}
-use Rattle.spelled.proofs.spell.Tie as tie
-
-record Spelt (out₀ : List ℕ) (at w k : ℕ) (out : List ℕ) (rest i : ℕ) : Type 0 where
-  few : i ≤ k
-  long : length out ≡ length out₀
-  all : sets out (at + i) (bytes_of (k - i) rest) ≡ sets out₀ at (bytes_of k w)
+use Rattle.spelled.proofs.spell.Invariants.{Spelt}
+use Rattle.spelled.proofs.spell.Goals as goal
 
 start : (out : List ℕ) (at w k : ℕ) → Spelt out at w k out w 0
 start out at w k =
@@ -44,38 +39,17 @@ finished {out₀} {out} {at} {w} {k} {rest} {i} p h =
     let none : k - i ≡ 0 = omega arith in
     sym (ap (sets out (at + i)) (ap (λ (n : ℕ). bytes_of n rest) none ∙ none_left rest)) ∙ p.all
 
-abbrev invariant-loop : tie.invariant-loop
-invariant-loop out₀ at w k rest₀ i₀ out rest i = Spelt out₀ at w k out rest i
+pub loop-i-init : goal.loop-i-init
+loop-i-init c = start c.args.out.now c.args.at c.args.w c.args.k
 
-abbrev decreases-loop : tie.decreases-loop
-decreases-loop out₀ at w k rest₀ i₀ out rest i = k - i
+pub bounds-out-at : goal.bounds-out-at
+bounds-out-at c = omega (arith, c.loop-i.invariant.long)
 
-loop_holds : tie.Need-loop-init invariant-loop decreases-loop
-loop_holds c = start c.args.out.now c.args.at c.args.w c.args.k
+pub loop-i-preserved : goal.loop-i-preserved
+loop-i-preserved c = turn c.loop-i.invariant (omega arith)
 
-cast_out : tie.Need-overflow-cast-out invariant-loop decreases-loop
-cast_out c = omega arith
+pub shape_of-out : goal.shape_of-out
+shape_of-out c = c.loop-i.invariant.long
 
-add_out : tie.Need-overflow-add-out invariant-loop decreases-loop
-add_out c = omega arith
-
-slice_write_out : tie.Need-slice-write-out invariant-loop decreases-loop
-slice_write_out c = omega (arith, c.before.loop.invariant.long)
-
-add_i : tie.Need-overflow-add-i invariant-loop decreases-loop
-add_i c = omega arith
-
-loop_less : tie.Need-loop-smaller invariant-loop decreases-loop
-loop_less c = omega arith
-
-loop_again : tie.Need-loop-preserved invariant-loop decreases-loop
-loop_again c = turn c.before.loop.invariant (omega arith)
-
-same_length : tie.Need-same-length invariant-loop decreases-loop
-same_length c = c.before.loop.invariant.long
-
-returns : tie.Need-returns invariant-loop decreases-loop
-returns c = finished c.before.loop.invariant (omega arith)
-
-pub spell_spec : {M : Type 1} → statement M
-spell_spec = tie.close (tie.spec invariant-loop decreases-loop loop_holds cast_out add_out slice_write_out add_i loop_less loop_again same_length returns)
+pub returns : goal.returns
+returns c = finished c.loop-i.invariant (omega arith)

@@ -14,8 +14,8 @@ use mir.Val.{Fits, SFits, to_z, of_z}
 use mir.Facts.{to_z-of_z}
 use Rattle.text.specs.Text.{led, whole, signed}
 use Rattle.pieces.proofs.Puts.{renamed, puts, wrote, both}
-use Rattle.text.proofs.signed.Statement.{statement}
-use Rattle.text.proofs.signed.Tie as tie
+use Rattle.text.proofs.signed.Goals as goal
+use Rattle.text.proofs.signed.Goals.{Else-n-lt0, Then-n-lt0}
 
 -- a number as the code reads it from its bits, and -1 less it
 abbrev read : ℤ → ℤ
@@ -75,56 +75,33 @@ above (negsuc k) f t = absurd (true_false (sym (ap (λ (z : ℤ). lt_z z (pos 0)
     true_false : true ≡ false → ⊥
     true_false e = subst T e tt
 
-is_below : (c : tie.Then1) → Below c.before.before.args.n
-is_below c = below c.before.before.args.n c.before.before.ranges.n c.if1.true
+is_below : (c : Then-n-lt0) → Below c.args.n
+is_below c = below c.args.n c.ranges.n c.if-n-lt0.true
 
-is_above : (c : tie.Else1) → Above c.before.before.args.n
-is_above c = above c.before.before.args.n c.before.before.ranges.n c.if1.false
+is_above : (c : Else-n-lt0) → Above c.args.n
+is_above c = above c.args.n c.ranges.n c.if-n-lt0.false
 
-sub-led : tie.Need-overflow-sub-led
-sub-led c = (is_below c.before.before.before.before.before.before).fitting
+pub overflow_sub-n : goal.overflow_sub-n
+overflow_sub-n c = (is_below (goal.at.overflow_sub-n c).Then-n-lt0).fitting
 
-cast-led : tie.Need-overflow-cast-led
-cast-led c =
-    let b = is_below c.before.before.before.before.before.before in
+pub overflow_cast-n : goal.overflow_cast-n
+overflow_cast-n c = let b = is_below (goal.at.overflow_cast-n c).Then-n-lt0 in
     castable b.read_back b.small
 
-add-led : tie.Need-overflow-add-led
-add-led c =
-    let b = is_below c.before.before.before.before.before.before in
+pub overflow_add-n : goal.overflow_add-n
+overflow_add-n c = let b = is_below (goal.at.overflow_add-n c).Then-n-lt0 in
     record { fits = omega (arith, under b.read_back b.small) }
 
-returns : tie.Need-returns
-returns c =
-    let at1 = c.before.before in
-    let b = is_below at1.before.before.before.before.before.before.before in
+pub returns-then-n-lt0 : goal.returns-then-n-lt0
+returns-then-n-lt0 c = let b = is_below (goal.at.returns-then-n-lt0 c).Then-n-lt0 in
     let text-is = ap (λ (z : ℤ). 32 ∷ led 45 (nat_abs z + 1)) b.read_back ∙ sym (ap signed b.is) in
-    both (renamed text-is (puts (wrote at1.before.before.before.before.put.ensures) (wrote at1.led.ensures)))
+    let both = both (renamed text-is (puts (wrote (c.put-end.ensures.value, c.put-end.ensures.out_after)) (wrote (c.led.ensures.value, c.led.ensures.out_after)))) in record { value = both.0; out_after = both.1 }
 
-cast-whole : tie.Need-overflow-cast-whole
-cast-whole c =
-    let a = is_above c.before in
+pub overflow_cast-n-2 : goal.overflow_cast-n-2
+overflow_cast-n-2 c = let a = is_above (goal.at.overflow_cast-n-2 c).Else-n-lt0 in
     castable a.read_back a.small
 
-returns-2 : tie.Need-returns-2
-returns-2 c =
-    let a = is_above c.before.before.before.before in
+pub returns : goal.returns
+returns c = let a = is_above (goal.at.returns c).Else-n-lt0 in
     let text-is = ap (λ (z : ℤ). whole (nat_abs z)) a.read_back ∙ sym (ap signed a.is) in
-    both (renamed text-is (wrote c.before.before.whole.ensures))
-
-pub signed_spec : {M : Type 1} → statement M
-signed_spec =
-    tie.close
-    (tie.spec
-    (λ c. search rules)
-    (λ c κs. search rules)
-    sub-led
-    cast-led
-    add-led
-    (λ c κs. search rules)
-    (λ c. search rules)
-    returns
-    cast-whole
-    (λ c κs. search rules)
-    (λ c. search rules)
-    returns-2)
+    let both = both (renamed text-is (wrote (c.whole.ensures.value, c.whole.ensures.out_after))) in record { value = both.0; out_after = both.1 }

@@ -7,8 +7,8 @@ use lib.ListN.{length, take, drop, set, length-set, take-append-drop}
 use lib.Seq.{take-set-le, append_snoc}
 use Rattle.text.specs.Text.{digit, hex, worded}
 use Rattle.text.proofs.Digits.{digit_before}
-use Rattle.text.proofs.worded.Statement.{statement}
-use Rattle.text.proofs.worded.Tie as tie
+use Rattle.text.proofs.worded.Invariants.{Found}
+use Rattle.text.proofs.worded.Goals as goal
 
 one_digit : (k n : ℕ) → hex (suc k) n ≡ hex k (n / 16) ++ (digit (n % 16) ∷ [])
 unfolding hex
@@ -17,13 +17,6 @@ one_digit k n = refl
 no_digit : (n : ℕ) → hex (1 - 1) n ≡ []
 unfolding hex
 no_digit n = refl
-
-record Found (w : ℕ) (digits : List ℕ) (left rest : ℕ) : Type 0 where
-  long : length digits ≡ 17
-  least : 1 ≤ left
-  most : left ≤ 17
-  spaced : take 1 digits ≡ 32 ∷ []
-  all : hex 16 w ≡ hex (left - 1) rest ++ drop left digits
 
 turn : {w left rest d : ℕ} {digits : List ℕ} → Found w digits left rest → 1 < left → d ≡ digit (rest % 16) → Found w (set digits (left - 1) d) (left - 1) (rest / 16)
 turn {w} {left} {rest} {d} {digits} p h e =
@@ -47,32 +40,17 @@ finished {w} {left} {rest} {digits} p h =
     let rest-is : hex 16 w ≡ drop 1 digits = p.all ∙ ap (λ (k : ℕ). hex (k - 1) rest ++ drop k digits) one ∙ ap (λ (l : List ℕ). l ++ drop 1 digits) (no_digit rest) in
     sym (take-append-drop 1 digits) ∙ ap (λ (l : List ℕ). l ++ drop 1 digits) p.spaced ∙ ap (λ (l : List ℕ). 32 ∷ l) (sym rest-is)
 
-abbrev invariant-loop : tie.invariant-loop
-invariant-loop w digits₀ left₀ rest₀ digits left rest = Found w digits left rest
+pub loop-left-init : goal.loop-left-init
+loop-left-init c = record { long = refl; least = omega arith; most = omega arith; spaced = refl; all = sym (append-nil (hex 16 c.args.w)) }
 
-abbrev decreases-loop : tie.decreases-loop
-decreases-loop w digits₀ left₀ rest₀ digits left rest = left
+pub digit-requires : goal.digit-requires
+digit-requires c = omega arith
 
-loop_holds : tie.Need-loop-init invariant-loop decreases-loop
-loop_holds c = record { long = refl; least = omega arith; most = omega arith; spaced = refl; all = sym (append-nil (hex 16 c.args.w)) }
+pub bounds-digits-left : goal.bounds-digits-left
+bounds-digits-left c = omega (arith, c.loop-left.invariant.most)
 
-sub_left : tie.Need-overflow-sub-left invariant-loop decreases-loop
-sub_left c = omega arith
+pub loop-left-preserved : goal.loop-left-preserved
+loop-left-preserved c = turn c.loop-left.invariant (omega arith) c.digit.ensures
 
-digit_requires : tie.Need-digit-requires invariant-loop decreases-loop
-digit_requires c = λ u. omega arith
-
-array_write_digits : tie.Need-array-write-digits invariant-loop decreases-loop
-array_write_digits c = omega (arith, c.before.before.loop.invariant.most)
-
-loop_less : tie.Need-loop-smaller invariant-loop decreases-loop
-loop_less c = omega arith
-
-loop_again : tie.Need-loop-preserved invariant-loop decreases-loop
-loop_again c = turn c.before.before.loop.invariant (omega arith) c.digit.ensures
-
-returns : tie.Need-returns invariant-loop decreases-loop
-returns c = finished c.before.loop.invariant (omega arith)
-
-pub worded_spec : {M : Type 1} → statement M
-worded_spec = tie.close (tie.spec invariant-loop decreases-loop loop_holds sub_left digit_requires array_write_digits loop_less loop_again returns)
+pub returns : goal.returns
+returns c = finished c.loop-left.invariant (omega arith)

@@ -1,0 +1,13 @@
+-- `version::Version::form` meets its contract: each version is one case of the definition.
+use mathlib.Core.Path.{refl}
+use Rattle.version.specs.Version.{form_number}
+use borrow.Author.Rules.{rules}
+use Rattle.version.proofs.Version.form.Goals as goal
+
+pub returns-in-One : goal.returns-in-One
+unfolding form_number
+returns-in-One c = rw c.in-One.is refl
+
+pub returns-in-Two : goal.returns-in-Two
+unfolding form_number
+returns-in-Two c = rw c.in-Two.is refl
