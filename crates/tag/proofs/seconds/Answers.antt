@@ -12,8 +12,7 @@ use mir.Val.{SFits, to_z}
 use mir.Facts.{to_z_pos, to_z-of_z}
 use Rattle.tag.specs.Tag.{epoch_of}
 use Rattle.tag.proofs.Epochs.{as_read}
-use Rattle.tag.proofs.seconds.Statement.{statement}
-use Rattle.tag.proofs.seconds.Tie as tie
+use Rattle.tag.proofs.seconds.Goals as goal
 
 below_zero : (word : ℕ) → 2 ^ 63 ≤ word → epoch_of word ≡ negsuc (2 ^ 64 - 1 - word)
 unfolding epoch_of
@@ -31,22 +30,14 @@ module _ {k : ℕ} (h : k < 2 ^ 63) where
   fitting : SFits w64 (negsuc 0 -ℤ to_z w64 k)
   fitting = subst (SFits w64) (sym taken) (record { sfits = h })
 
-cast-result : tie.Need-overflow-cast-result
-cast-result c = search rules
+pub returns-then-word-lt9223372036854775808 : goal.returns-then-word-lt9223372036854775808
+returns-then-word-lt9223372036854775808 c = sym (as_read c.args.word)
 
-returns : tie.Need-returns
-returns c = sym (as_read c.before.args.word)
-
-sub-result-2 : tie.Need-overflow-sub-result-2
-sub-result-2 c =
-    let few : 2 ^ 64 - 1 - c.before.args.word < 2 ^ 63 = omega arith in
+pub overflow_sub-result-2 : goal.overflow_sub-result-2
+overflow_sub-result-2 c = let few : 2 ^ 64 - 1 - c.args.word < 2 ^ 63 = omega arith in
     fitting few
 
-returns-2 : tie.Need-returns-2
-returns-2 c =
-    let word = c.before.args.word in
+pub returns : goal.returns
+returns c = let word = c.args.word in
     let few : 2 ^ 64 - 1 - word < 2 ^ 63 = omega arith in
     to_z-of_z (fitting few) ∙ taken few ∙ sym (below_zero word (omega arith))
-
-pub seconds_spec : {M : Type 1} → statement M
-seconds_spec = tie.close (tie.spec cast-result returns (λ c. search rules) (λ c. search rules) sub-result-2 returns-2)

@@ -9,13 +9,8 @@ use native.Mathlib.Omega.{arith}
 use lib.ListN.{length, drop, get_or}
 use Rattle.words.specs.Words.{value}
 use Rattle.words.proofs.Value.{value_drop}
-use Rattle.words.proofs.bytes.Statement.{statement}
-use Rattle.words.proofs.bytes.Tie as tie
-
-record Summed (s : List ℕ) (at k left sum : ℕ) : Type 0 where
-  within : left ≤ k
-  total : sum ≡ value (k - left) (drop (at + left) s)
-  small : sum < 256 ^ (k - left)
+use Rattle.words.proofs.bytes.Invariants.{Summed}
+use Rattle.words.proofs.bytes.Goals as goal
 
 start : (s : List ℕ) (at k : ℕ) → Summed s at k k 0
 unfolding value
@@ -47,55 +42,20 @@ room {k = k} {left = left} p h few =
     let seven : k - left ≤ 7 = omega arith in
     omega (arith, pow-le-pow_right {n = 256} (omega arith) seven)
 
-abbrev invariant-loop : tie.invariant-loop
-invariant-loop s at k left₀ sum₀ left sum = Summed s at k left sum
+pub loop-left-init : goal.loop-left-init
+loop-left-init c = start c.args.s.now c.args.at c.args.k
 
-abbrev decreases-loop : tie.decreases-loop
-decreases-loop s at k left₀ sum₀ left sum = left
+pub overflow_mul-sum : goal.overflow_mul-sum
+overflow_mul-sum c = omega (arith, room c.loop-left.invariant (omega arith) (omega arith))
 
-loop_holds : tie.Need-loop-init invariant-loop decreases-loop
-loop_holds c = start c.args.s.now c.args.at c.args.k
+pub overflow_cast-sum : goal.overflow_cast-sum
+overflow_cast-sum c = omega (arith, c.shared_slice_known-1.given (c.args.at + (c.loop-left.left - 1)))
 
-sub_left : tie.Need-overflow-sub-left invariant-loop decreases-loop
-sub_left c = omega arith
+pub overflow_add-sum-in-loop-left : goal.overflow_add-sum-in-loop-left
+overflow_add-sum-in-loop-left c = omega (arith, room c.loop-left.invariant (omega arith) (omega arith), c.shared_slice_known-1.given (c.args.at + (c.loop-left.left - 1)))
 
-mul_sum : tie.Need-overflow-mul-sum invariant-loop decreases-loop
-mul_sum c = omega (arith, room c.before.loop.invariant (omega arith) (omega arith))
+pub loop-left-preserved : goal.loop-left-preserved
+loop-left-preserved c = turn c.loop-left.invariant (omega arith) (omega arith) (λ i. omega (arith, c.shared_slice_known-1.given i))
 
-add_sum : tie.Need-overflow-add-sum invariant-loop decreases-loop
-add_sum c = omega arith
-
-shared_slice_read_sum : tie.Need-shared-slice-read-sum invariant-loop decreases-loop
-shared_slice_read_sum c = omega arith
-
-cast_sum : tie.Need-overflow-cast-sum invariant-loop decreases-loop
-cast_sum c = omega (arith, c.shared-slice-known.given (c.before.before.before.args.at + (c.before.before.loop.left - 1)))
-
-add_sum_2 : tie.Need-overflow-add-sum-2 invariant-loop decreases-loop
-add_sum_2 c = omega (arith, room c.before.before.loop.invariant (omega arith) (omega arith), c.shared-slice-known.given (c.before.before.before.args.at + (c.before.before.loop.left - 1)))
-
-loop_less : tie.Need-loop-smaller invariant-loop decreases-loop
-loop_less c = omega arith
-
-loop_again : tie.Need-loop-preserved invariant-loop decreases-loop
-loop_again c = turn c.before.before.loop.invariant (omega arith) (omega arith) (λ i. omega (arith, c.shared-slice-known.given i))
-
-returns : tie.Need-returns invariant-loop decreases-loop
-returns c = finished c.before.loop.invariant (omega arith)
-
-pub bytes_spec : {M : Type 1} → statement M
-bytes_spec =
-    tie.close
-    (tie.spec
-    invariant-loop
-    decreases-loop
-    loop_holds
-    sub_left
-    mul_sum
-    add_sum
-    shared_slice_read_sum
-    cast_sum
-    add_sum_2
-    loop_less
-    loop_again
-    returns)
+pub returns : goal.returns
+returns c = let both = finished c.loop-left.invariant (omega arith) in record { value = both.0; upper_bound = both.1 }

@@ -1,0 +1,15 @@
+-- What lasts over the turns of `units::first_not_finite`, and why they end.
+use mathlib.Core.Path.{◌≡◌, refl, sym, ◌∙◌}
+use Prim.Native.Nat.{◌-◌, ◌≤◌}
+use native.Mathlib.Omega.{arith}
+use borrow.Author.Rules.{rules}
+use borrow.Author.Tests.{not-true, not-false}
+use Rattle.units.specs.Units.{finite_from, by_place}
+use Rattle.units.proofs.Places.{left, stopped, one_on, all_tested}
+use Rattle.units.proofs.first_not_finite.Given as goal
+
+abbrev pub invariant-loop-place : goal.invariant-loop-place
+invariant-loop-place l = (l.place ≤ 8) × (left by_place l.numbers l.place ≡ finite_from by_place 0 l.numbers)
+
+abbrev pub decreases-loop-place : goal.decreases-loop-place
+decreases-loop-place l = 8 - l.place
