@@ -1,0 +1,7 @@
+-- `card::number` meets its contract: the number of the word.
+use mathlib.Core.Path.{refl, ◌∙◌}
+use borrow.Author.Rules.{rules}
+use Rattle.card.proofs.number.Goals as goal
+
+pub returns : goal.returns
+returns c = c.number.ensures ∙ rw c.word.ensures refl
