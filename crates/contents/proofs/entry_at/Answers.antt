@@ -1,0 +1,51 @@
+-- `contents::entry_at` meets its contract: each return is one way through the definition's row of tests.
+use mathlib.Core.Path.{◌≡◌, refl}
+use Prim.Native.Nat.{◌+◌}
+use borrow.Author.Tests.{eq-eqb, ne_eqb, le-leb, lt-leb}
+use lib.Dec.{eqb, leb}
+use lib.ListN.{length}
+use Rattle.rows.specs.Rows.{pass, must, onward}
+use Rattle.contents.specs.Contents.{offset_at, entry_in}
+use borrow.Author.Rules.{rules}
+use Rattle.contents.proofs.entry_at.Goals as goal
+use Rattle.contents.proofs.entry_at.Goals.{After-half, After-half-2, Else-half-at}
+
+pub returns-in_default : goal.returns-in_default
+unfolding onward entry_in
+returns-in_default c = rw (← c.kind_at.ensures, c.in_default.is) refl
+
+-- past the first test, the row as it was found
+known : (c : After-half) → let from = c.args in
+    entry_in from.version from.deck.now from.i from.at ≡ must (eqb c.half.result c.size-size.result) 35 (must (eqb (offset_at from.deck.now from.i) from.at) 36 (must (leb (from.at + c.size-size.result) (length from.deck.now)) 37 (pass c.in-Kind.kind)))
+unfolding onward entry_in
+known c = rw (← c.kind_at.ensures, c.in-Kind.is, ← c.half.ensures, ← c.size-size.ensures) refl
+
+pub returns-then-half-size : goal.returns-then-half-size
+unfolding must
+returns-then-half-size c = rw (known (goal.at.returns-then-half-size c).After-half, ne_eqb c.half.result c.size-size.result c.if-half-size.true) refl
+
+-- past the second
+right_length : (c : After-half-2) → let from = c.args in
+    entry_in from.version from.deck.now from.i from.at ≡ must (eqb c.half-2.result from.at) 36 (must (leb (from.at + c.size-size.result) (length from.deck.now)) 37 (pass c.in-Kind.kind))
+unfolding must
+right_length c = rw (known (goal.at.After-half-2 c).After-half, eq-eqb c.half.result c.size-size.result c.if-half-size.false, ← c.half-2.ensures) refl
+
+pub returns-then-half-at : goal.returns-then-half-at
+unfolding must
+returns-then-half-at c = rw (right_length (goal.at.returns-then-half-at c).After-half-2, ne_eqb c.half-2.result c.args.at c.if-half-at.true) refl
+
+-- past the third: the last body ended where a word of four bytes says
+right_offset : (c : Else-half-at) → let from = c.args in
+    entry_in from.version from.deck.now from.i from.at ≡ must (leb (from.at + c.size-size.result) (length from.deck.now)) 37 (pass c.in-Kind.kind)
+unfolding must
+right_offset c = rw (right_length (goal.at.Else-half-at c).After-half-2, eq-eqb c.half-2.result c.args.at c.if-half-at.false) refl
+
+pub returns-then-deck-at : goal.returns-then-deck-at
+unfolding must
+returns-then-deck-at c = let from = c.args in
+    rw (right_offset (goal.at.returns-then-deck-at c).Else-half-at, lt-leb (from.at + c.size-size.result) (length from.deck.now) c.if-deck-at.true) refl
+
+pub returns : goal.returns
+unfolding must
+returns c = let from = c.args in
+    rw (right_offset (goal.at.returns c).Else-half-at, le-leb (from.at + c.size-size.result) (length from.deck.now) c.if-deck-at.false) refl
