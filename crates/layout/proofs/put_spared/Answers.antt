@@ -12,8 +12,7 @@ use lib.ListN.{length, take, drop, length-drop, drop_of_length-le}
 use lib.Seq.{length-take-le, take_all}
 use Rattle.pieces.proofs.Puts.{puts, renamed, wrote}
 use Rattle.card.specs.Fields.{problem_size}
-use Rattle.layout.proofs.put_spared.Statement.{statement}
-use Rattle.layout.proofs.put_spared.Tie as tie
+use Rattle.layout.proofs.put_spared.Goals as goal
 
 -- fields of which n bytes are taken for the problem, and the rest for the answer
 abbrev Parted : (fields : List ℕ) (n : ℕ) → Type 0
@@ -36,25 +35,9 @@ parted fields {n} e = go (leb problem_size (length fields)) refl
           behind fields n ∙ drop_of_length-le fields all ∙ sym (drop_of_length-le fields {i = problem_size} (omega (arith, short))),
         )
 
-slice-aggregate-put : tie.Need-slice-aggregate-put
-slice-aggregate-put c = sym (length-take-le c.before.before.given.result c.before.before.before.before.before.args.fields.now (omega (arith, c.before.before.given.ensures)))
+pub slice_bounds-put-end : goal.slice_bounds-put-end
+slice_bounds-put-end c = sym (length-take-le c.given-first.result c.args.fields.now (omega (arith, c.given-first.ensures)))
 
-returns : tie.Need-returns
-returns c =
-    let p = parted c.before.before.before.before.before.before.before.before.before.before.before.before.before.before.before.before.before.args.fields.now c.before.before.before.before.before.before.before.before.before.before.before.before.before.before.given.ensures in
-    puts (renamed p.0 (wrote c.before.before.before.before.before.before.before.before.before.before.before.put.ensures)) (puts (wrote c.before.before.before.before.before.before.before.put-half.ensures) (renamed p.1 (wrote c.before.before.put2.ensures)))
-
-pub put_spared_spec : {M : Type 1} → statement M
-put_spared_spec =
-    tie.close
-    (tie.spec
-    (λ c κs. search rules)
-    slice-aggregate-put
-    (λ c κs. search rules)
-    (λ c κs. search rules)
-    (λ c. search rules)
-    (λ c. search rules)
-    (λ c. search rules)
-    (λ c κs. search rules)
-    (λ c. search rules)
-    returns)
+pub returns : goal.returns
+returns c = let p = parted c.args.fields.now c.given-first.ensures in
+    puts (renamed p.0 (wrote (c.put-problem.ensures.value, c.put-problem.ensures.out_after))) (puts (wrote (c.put_half-spare.ensures.value, c.put_half-spare.ensures.out_after)) (renamed p.1 (wrote (c.put.ensures.value, c.put.ensures.out_after))))
