@@ -1,6 +1,5 @@
 -- `exact::near` meets its contract: the definition's steps, with what `absolute` ensures put in.
 use mathlib.Core.Path.{ap}
-use borrow.Author.Rules.{rules}
 use lib.Ieee.{Float, le}
 use Rattle.exact.specs.Numbers.{tolerance, is_near}
 use Rattle.exact.proofs.near.Goals as goal
