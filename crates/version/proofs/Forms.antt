@@ -1,10 +1,10 @@
 -- The version that is given: what its number names, under the number 42, and then the test of the form.
-use mathlib.Core.Path.{◌≡◌, refl, ap}
+use mathlib.Core.Path.{◌≡◌, refl}
 use mathlib.Core.Bool.{Bool, true, false}
 use Prim.Native.Nat.{ℕ}
 use borrow.Author.Tests.{eq-eqb, ne_eqb, eqb-true}
 use lib.Dec.{eqb}
-use Rattle.rows.specs.Rows.{Checked, pass, refuse, must, renumbered, onward}
+use Rattle.rows.specs.Rows.{pass, refuse, must, onward}
 use Rattle.version.specs.declared.Version.{Version}
 use Rattle.version.specs.declared.Version.TheVariants as version
 use Rattle.version.specs.Version.{version_of, form_number, version_given}

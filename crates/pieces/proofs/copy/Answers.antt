@@ -1,7 +1,7 @@
 -- `pieces::copy` meets its contract. The invariant: the first i bytes stand in their places.
 use mathlib.Core.Path.{◌≡◌, refl, ap, ◌∙◌}
 use mathlib.Core.List.{List}
-use Prim.Native.Nat.{ℕ, ◌+◌, ◌-◌, ◌≤◌}
+use Prim.Native.Nat.{ℕ, ◌+◌}
 use native.Mathlib.Omega.{arith}
 use lib.ListN.{length, take, set, get_or}
 use lib.Seq.{sets, length-sets}

@@ -1,11 +1,8 @@
 -- What lasts over the turns of `pieces::copy`, and why they end.
-use mathlib.Core.Path.{◌≡◌, refl, ap, ◌∙◌}
-use mathlib.Core.List.{List}
-use Prim.Native.Nat.{ℕ, ◌+◌, ◌-◌, ◌≤◌}
-use native.Mathlib.Omega.{arith}
-use lib.ListN.{length, take, set, get_or}
-use lib.Seq.{sets, length-sets}
-use Rattle.pieces.proofs.Puts.{one_more}
+use mathlib.Core.Path.{◌≡◌}
+use Prim.Native.Nat.{◌-◌, ◌≤◌}
+use lib.ListN.{take}
+use lib.Seq.{sets}
 use Rattle.pieces.proofs.copy.Given as goal
 
 abbrev pub invariant-loop-i : goal.invariant-loop-i

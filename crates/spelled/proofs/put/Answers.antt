@@ -2,7 +2,6 @@
 use mathlib.Core.Path.{ap}
 use Prim.Native.Nat.{ℕ}
 use native.Mathlib.Omega.{arith}
-use borrow.Author.Rules.{rules}
 use Rattle.pieces.proofs.Puts.{renamed, both}
 use Rattle.spelled.specs.Spelled.{bytes_of}
 use Rattle.spelled.proofs.put.Goals as goal

@@ -1,6 +1,5 @@
 -- `text::count` meets its contract: a count, which is below 2 ^ 32, has no more than ten digits, so that the whole number written is the count.
 use native.Mathlib.Omega.{arith}
-use borrow.Author.Rules.{rules}
 use Rattle.pieces.proofs.Puts.{renamed, wrote, both}
 use Rattle.text.proofs.Digits.{whole_is_count}
 use Rattle.text.proofs.count.Goals as goal

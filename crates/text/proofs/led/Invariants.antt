@@ -1,18 +1,11 @@
 -- What lasts over the turns of `text::led`, and why they end.
-use mathlib.Core.Path.{◌≡◌, refl, sym, ap, ◌∙◌}
-use mathlib.Core.Bool.{Bool, true, false, cond}
-use mathlib.Core.List.{List, [], ◌∷◌, ◌++◌}
-use Prim.Native.Nat.{ℕ, zero, suc, ◌-◌, ◌/◌, ◌%◌, ◌^◌, ◌≤◌, ◌<◌}
-use native.Mathlib.Nat.{pow-succ'}
-use native.Mathlib.Omega.{arith}
-use borrow.Author.Rules.{rules}
-use borrow.Author.Tests.{ltb-true, ltb-false, eq-eqb, ne_eqb}
-use lib.Dec.{eqb, ltb}
-use lib.ListN.{length, take, drop, set, get_or, replicate, length-set, length-append, length-drop, length-replicate, get_or-replicate, get_or-append}
-use lib.Seq.{append_snoc, take_all, drop-cons, drop_at, get_or-set_other}
-use Rattle.text.specs.Text.{digit, decimal}
-use Rattle.pieces.proofs.Puts.{renamed, wrote, both}
-use Rattle.text.proofs.Digits.{digit_before}
+use mathlib.Core.Path.{◌≡◌}
+use mathlib.Core.Bool.{cond}
+use mathlib.Core.List.{List, [], ◌++◌}
+use Prim.Native.Nat.{ℕ, suc, ◌-◌, ◌^◌, ◌≤◌, ◌<◌}
+use lib.Dec.{eqb}
+use lib.ListN.{length, drop, get_or}
+use Rattle.text.specs.Text.{decimal}
 use Rattle.text.proofs.led.Given as goal
 
 -- the digits of what is left: none of 0

@@ -1,6 +1,5 @@
 -- `text::number` meets its contract: the piece is the number's word.
 use mathlib.Core.Path.{◌∙◌, ap}
-use borrow.Author.Rules.{rules}
 use Rattle.text.specs.Text.{worded}
 use Rattle.pieces.proofs.Puts.{renamed, wrote, both}
 use Rattle.text.proofs.number.Goals as goal

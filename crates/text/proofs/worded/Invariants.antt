@@ -1,12 +1,9 @@
 -- What lasts over the turns of `text::worded`, and why they end.
-use mathlib.Core.Path.{◌≡◌, refl, sym, ap, ◌∙◌}
-use mathlib.Core.List.{List, [], ◌∷◌, ◌++◌, append-nil}
-use Prim.Native.Nat.{ℕ, suc, ◌-◌, ◌/◌, ◌%◌, ◌≤◌, ◌<◌}
-use native.Mathlib.Omega.{arith}
-use lib.ListN.{length, take, drop, set, length-set, take-append-drop}
-use lib.Seq.{take-set-le, append_snoc}
-use Rattle.text.specs.Text.{digit, hex, worded}
-use Rattle.text.proofs.Digits.{digit_before}
+use mathlib.Core.Path.{◌≡◌}
+use mathlib.Core.List.{List, [], ◌∷◌, ◌++◌}
+use Prim.Native.Nat.{ℕ, ◌-◌, ◌≤◌}
+use lib.ListN.{length, take, drop}
+use Rattle.text.specs.Text.{hex}
 use Rattle.text.proofs.worded.Given as goal
 
 pub record Found (w : ℕ) (digits : List ℕ) (left rest : ℕ) : Type 0 where

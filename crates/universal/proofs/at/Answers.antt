@@ -1,6 +1,5 @@
 -- `at` meets its contract: one of the series is refused, or a quarter is doubled twice.
 use mathlib.Core.Path.{◌≡◌, refl, sym}
-use borrow.Author.Rules.{rules}
 use Rattle.exact.specs.Numbers.{◌⊘◌}
 use Rattle.rows.specs.Rows.{onward}
 use Rattle.universal.specs.Said.{summed}

@@ -1,6 +1,5 @@
 -- `at_or_nan` meets its contract: a quarter, doubled twice, of the sums or of NaNs.
 use mathlib.Core.Path.{◌≡◌, refl, ◌∙◌}
-use borrow.Author.Rules.{rules}
 use Rattle.exact.specs.Numbers.{◌⊘◌}
 use Rattle.universal.specs.Series.{four, sums_or_nans}
 use Rattle.universal.specs.Functions.{argument_at, quartered}

@@ -1,6 +1,5 @@
 -- `vectors::all_finite` meets its contract: what `finite` ensures, three times.
 use mathlib.Core.Path.{refl}
-use borrow.Author.Rules.{rules}
 use Rattle.vectors.proofs.all_finite.Goals as goal
 
 pub returns : goal.returns

@@ -1,6 +1,5 @@
 -- `version::given` meets its contract: no version, another form, or the version.
 use mathlib.Core.Path.{◌≡◌, sym, ap, ◌∙◌}
-use borrow.Author.Rules.{rules}
 use Rattle.rows.specs.Rows.{pass}
 use Rattle.version.specs.Version.{stated, version_of}
 use Rattle.version.proofs.Forms.{no_version, other_form, its_form}

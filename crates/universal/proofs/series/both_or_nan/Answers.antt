@@ -1,6 +1,5 @@
 -- `series::both_or_nan` meets its contract: antt computes the definition's tables, entry by entry, and finds the code's.
 use mathlib.Core.Path.{refl}
-use borrow.Author.Rules.{rules}
 use lib.Ieee.{round, of_bits}
 use Rattle.universal.specs.Series.{coefficients, series_of}
 use Rattle.universal.proofs.series.both_or_nan.Goals as goal

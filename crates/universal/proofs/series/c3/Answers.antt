@@ -1,5 +1,4 @@
 -- `series::c3` meets its contract: antt computes the definition's table, entry by entry, and finds the code's.
-use borrow.Author.Rules.{rules}
 use lib.Ieee.{round, of_bits}
 use Rattle.universal.specs.Series.{coefficients, series_of}
 use Rattle.universal.proofs.series.c3.Goals as goal

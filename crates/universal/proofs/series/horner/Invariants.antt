@@ -1,11 +1,6 @@
 -- What lasts over the turns of `universal::series::horner`, and why they end.
-use mathlib.Core.Path.{◌≡◌, refl, sym, ◌∙◌}
-use mathlib.Core.List.{List}
-use Prim.Native.Nat.{ℕ, zero, suc, ◌-◌, ◌≤◌, ◌<◌}
-use native.Mathlib.Omega.{arith}
-use lib.ListN.{get_or}
-use lib.Ieee.{Float, nan, neg}
-use Rattle.exact.specs.Numbers.{◌⊕◌, ◌⊗◌}
+use mathlib.Core.Path.{◌≡◌}
+use Prim.Native.Nat.{◌≤◌}
 use Rattle.universal.specs.Series.{worked_from, worked}
 use Rattle.universal.proofs.series.horner.Given as goal
 

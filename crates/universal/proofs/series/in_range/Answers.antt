@@ -1,6 +1,5 @@
 -- `series::in_range` meets its contract: |z| as `absolute` ensures it.
 use mathlib.Core.Path.{refl}
-use borrow.Author.Rules.{rules}
 use Rattle.universal.proofs.series.in_range.Goals as goal
 
 pub returns : goal.returns

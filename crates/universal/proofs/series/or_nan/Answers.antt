@@ -1,6 +1,5 @@
 -- `series::or_nan` meets its contract: the table worked, where z is in the range as the test found it, or NaN.
 use mathlib.Core.Path.{refl, sym, ◌∙◌}
-use borrow.Author.Rules.{rules}
 use lib.Ieee.{div, of_bits}
 use Rattle.rows.specs.Rows.{must}
 use Rattle.universal.proofs.series.or_nan.Goals as goal

@@ -1,7 +1,5 @@
 -- `series::ranged` meets its contract: the range as the test found it, and the table worked.
 use mathlib.Core.Path.{refl, sym, ◌∙◌}
-use borrow.Author.Rules.{rules}
-use borrow.Author.Tests.{not-true, not-false}
 use Rattle.rows.specs.Rows.{must}
 use Rattle.universal.proofs.series.ranged.Goals as goal
 

@@ -1,7 +1,6 @@
 -- `version::Version::number` meets its contract: each version is one case of the definition.
 use mathlib.Core.Path.{refl}
 use Rattle.version.specs.Version.{version_number}
-use borrow.Author.Rules.{rules}
 use Rattle.version.proofs.Version.number.Goals as goal
 
 pub returns-in-One : goal.returns-in-One

@@ -1,7 +1,6 @@
 -- `version::Version::tag` meets its contract: each version is one case of the definition.
 use mathlib.Core.Path.{refl}
 use Rattle.version.specs.Version.{tag_size}
-use borrow.Author.Rules.{rules}
 use Rattle.version.proofs.Version.tag.Goals as goal
 
 pub returns-in-One : goal.returns-in-One
