@@ -1,8 +1,6 @@
 -- `arc_entry::entry` meets its contract: each return is one way through the definition's row of tests.
 use mathlib.Core.Path.{◌≡◌, refl, sym, ap, ◌∙◌}
 use mathlib.Core.Bool.{true}
-use borrow.Author.Rules.{rules}
-use borrow.Author.Tests.{not-true, not-false}
 use lib.Ieee.{lt}
 use Rattle.exact.specs.Numbers.{nought}
 use Rattle.rows.specs.Rows.{pass, must, onward}
@@ -16,19 +14,19 @@ use Rattle.arc_entry.specs.Said.{passed_scaled}
 use Rattle.arc.specs.Arc.{time_at}
 use Rattle.arc_entry.specs.ArcEntry.{scaled_of, start_by, input_number, entry_of}
 use Rattle.arc_entry.proofs.entry.Goals as goal
-use Rattle.arc_entry.proofs.entry.Goals.{Else-not-allows, Else-not-q, In_default}
+use Rattle.arc_entry.proofs.entry.Goals.{After-given, Else-not-allows, Else-not-q, In_default}
 
 -- what `given` found, in the transfer's own number
-found : (c : tie.After-given) (answer : Finite) → c.given.result ≡ answer → given_tested input_number c.before.before.before.args.q.mu c.before.before.before.args.q.r1 c.before.before.before.args.q.r2 c.before.before.before.args.q.dt ≡ again input_number (given_said answer)
-found c answer is = given_again input_number (numbers_given c.before.before.before.args.q.mu c.before.before.before.args.q.r1 c.before.before.before.args.q.r2 c.before.before.before.args.q.dt) answer c.given.ensures is
+found : (c : After-given) (answer : Finite) → c.given.result ≡ answer → given_tested input_number c.args.q.mu c.args.q.r1 c.args.q.r2 c.args.q.dt ≡ again input_number (given_said answer)
+found c answer is = given_again input_number (numbers_given c.args.q.mu c.args.q.r1 c.args.q.r2 c.args.q.dt) answer c.given.ensures is
 
 pub returns-in-NotAt : goal.returns-in-NotAt
 unfolding onward entry_of
-returns-in-NotAt c = rw (found c.before.before (finite.NotAt c.in-NotAt.field-0) c.in-NotAt.is) refl
+returns-in-NotAt c = rw (found (goal.at.returns-in-NotAt c).After-given (finite.NotAt c.in-NotAt.field-0) c.in-NotAt.is) refl
 
 -- past the first test every number is finite
 good : (c : In_default) → given_tested input_number c.args.q.mu c.args.q.r1 c.args.q.r2 c.args.q.dt ≡ pass tt
-good c = found c.before.before finite.All c.in_default.is
+good c = given_again input_number (numbers_given c.args.q.mu c.args.q.r1 c.args.q.r2 c.args.q.dt) finite.All c.given.ensures c.in_default.is
 
 pub returns-then-not-q : goal.returns-then-not-q
 unfolding must onward entry_of
@@ -45,7 +43,7 @@ returns-then-not-allows c = rw (good (goal.at.returns-then-not-allows c).In_defa
 -- past the third the scaled transfer is wanted
 left : (c : Else-not-allows) → entry_of c.args.q ≡ onward (scaled_of c.args.q) (start_by time_at)
 unfolding must onward entry_of
-left c = let good : given_tested input_number c.args.q.mu c.args.q.r1 c.args.q.r2 c.args.q.dt ≡ pass tt = found c.before.before finite.All c.in_default.is in let above : lt nought c.args.q.mu ≡ true = c.if-not-q.false in rw (good, above, sym c.allows.ensures ∙ c.if-not-allows.false) refl
+left c = let good : given_tested input_number c.args.q.mu c.args.q.r1 c.args.q.r2 c.args.q.dt ≡ pass tt = given_again input_number (numbers_given c.args.q.mu c.args.q.r1 c.args.q.r2 c.args.q.dt) finite.All c.given.ensures c.in_default.is in let above : lt nought c.args.q.mu ≡ true = c.if-not-q.false in rw (good, above, sym c.allows.ensures ∙ c.if-not-allows.false) refl
 
 pub returns-in-Passed : goal.returns-in-Passed
 unfolding onward

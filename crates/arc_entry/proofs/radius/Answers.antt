@@ -1,6 +1,5 @@
 -- `arc_entry::radius` meets its contract: what `units` says of the radius, with this crate's numbers.
 use mathlib.Core.Path.{sym, ap, ◌∙◌}
-use borrow.Author.Rules.{rules}
 use Rattle.units.specs.Units.{numbered}
 use Rattle.units.specs.Said.{length_said}
 use Rattle.arc_entry.proofs.radius.Goals as goal

@@ -1,6 +1,5 @@
 -- `arc_entry::scale` meets its contract: both radii and the scaled transfer, one after the other.
 use mathlib.Core.Path.{refl, sym, ap, ◌∙◌}
-use borrow.Author.Rules.{rules}
 use Rattle.rows.specs.Rows.{onward}
 use Rattle.arc_entry.specs.Said.{passed_number}
 use Rattle.arc_entry.specs.ArcEntry.{scaled_of}

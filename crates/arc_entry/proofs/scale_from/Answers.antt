@@ -1,6 +1,5 @@
 -- `arc_entry::scale_from` meets its contract: what `units` says of the unit, with this crate's number.
 use mathlib.Core.Path.{refl, sym, ap, ◌∙◌}
-use borrow.Author.Rules.{rules}
 use Rattle.rows.specs.Rows.{onward}
 use Rattle.units.specs.Said.{unit_said}
 use Rattle.arc_entry.specs.ArcEntry.{scaled_from}

@@ -1,8 +1,6 @@
 -- `arc_entry::started` meets its contract: each return is one way through the definition's row of tests.
 use mathlib.Core.Path.{◌≡◌, refl, sym, ◌∙◌}
 use mathlib.Core.Bool.{true}
-use borrow.Author.Rules.{rules}
-use borrow.Author.Tests.{not-true, not-false}
 use Rattle.exact.specs.Numbers.{is_finite}
 use Rattle.rows.specs.Rows.{must}
 use Rattle.arc_entry.specs.ArcEntry.{start_by}
