@@ -34,7 +34,8 @@ def found(patterns):
 
 
 def snake(name):
-    return re.sub(r"(?<=[a-z0-9])[A-Z]", lambda m: "_" + m[0].lower(), name).replace("-", "_")
+    words = re.sub(r"(?<=[a-z0-9])[A-Z]|(?<=[A-Z])[A-Z](?=[a-z])", lambda m: "_" + m[0].lower(), name)
+    return re.sub(r"_([A-Z])(?=_|$)", lambda m: "_" + m[1].lower(), words).replace("-", "_")
 
 
 def is_old(name):

@@ -4,7 +4,7 @@
 
 ghost use Rattle.std.specs.Prelude.{◌≡◌, ◌≤◌, length};
 ghost use Rattle.io.specs.Counts.{IsPrefixLen};
-ghost use Rattle.contents.specs.Contents.{read_of_aDeck};
+ghost use Rattle.contents.specs.Contents.{read_of_a_deck};
 ghost use Rattle.listing.specs.Listing.{listing_of};
 
 // One byte more than the largest deck has: what is longer has bytes left over, or is refused before.
@@ -20,7 +20,7 @@ fn main() {
 
 // Reads as much of a deck as can change its listing.
 fn read(space: &mut [u8], most: usize) -> usize
-    requires { (most ≡ read_of_aDeck) × (most ≤ length space.old) }
+    requires { (most ≡ read_of_a_deck) × (most ≤ length space.old) }
     ensures { IsPrefixLen result space.new }
 {
     stdio::read(space, most)

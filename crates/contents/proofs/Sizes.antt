@@ -17,7 +17,7 @@ use Rattle.version.specs.Version.{version_of}
 use Rattle.card.specs.declared.Kind.{Kind}
 use Rattle.card.specs.Fields.{Card, size_of, largest_body}
 use Rattle.card.proofs.Sizes.{size_most}
-use Rattle.contents.specs.Contents.{Deck, header_size, entry_at, most_cards, version_word, count_of, entry_in, cards_from, deck_in, largest_deck, read_of_aDeck}
+use Rattle.contents.specs.Contents.{Deck, header_size, entry_at, most_cards, version_word, count_of, entry_in, cards_from, deck_in, largest_deck, read_of_a_deck}
 use Rattle.contents.proofs.Cards.{card_at, one_more, as_many}
 use Rattle.contents.proofs.Opened.{with_version, opened_to}
 
@@ -83,7 +83,7 @@ module _ (front rest : List ℕ) where
       (same_card v kind at (omega arith)))
 
   -- what stands behind the first 38,921 bytes changes nothing
-  pub read_is_enough : read_of_aDeck ≤ length front → deck_in (front ++ rest) ≡ deck_in front
+  pub read_is_enough : read_of_a_deck ≤ length front → deck_in (front ++ rest) ≡ deck_in front
   unfolding deck_in
   read_is_enough h =
       let n = count_of front in

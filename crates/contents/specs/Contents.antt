@@ -86,5 +86,5 @@ Passes (refuse k) = ⊥
 abbrev pub largest_deck : ℕ
 largest_deck = header_size + most_cards * (entry_size + largest_body)
 
-abbrev pub read_of_aDeck : ℕ
-read_of_aDeck = largest_deck + 1
+abbrev pub read_of_a_deck : ℕ
+read_of_a_deck = largest_deck + 1

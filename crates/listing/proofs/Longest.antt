@@ -21,7 +21,7 @@ use Rattle.card.specs.declared.Kind.{Kind}
 use Rattle.card.specs.declared.Kind.TheVariants as kind
 use Rattle.card.specs.Fields.{Card, Parts, parts_of, tag_of}
 use Rattle.card.proofs.Sizes.{tag_text_most}
-use Rattle.contents.specs.Contents.{Deck, most_cards, deck_in, read_of_aDeck}
+use Rattle.contents.specs.Contents.{Deck, most_cards, deck_in, read_of_a_deck}
 use Rattle.contents.proofs.Sizes.{few_cards, read_is_enough}
 use Rattle.ruling.specs.Said.{Said, solved, refused, rejected, number_in}
 use Rattle.verdict.specs.Verdict.{verdict_on, verdict_of}
@@ -138,6 +138,6 @@ pub in_page : (deck page : List ℕ) {after : List ℕ} {end : ℕ} → length p
 in_page deck page room e is = found (listing_of deck) page (omega (arith, longest deck)) e is
 
 -- and what is read of a deck is enough for it
-pub listing_of_what_is_read : (front rest : List ℕ) → read_of_aDeck ≤ length front → listing_of (front ++ rest) ≡ listing_of front
+pub listing_of_what_is_read : (front rest : List ℕ) → read_of_a_deck ≤ length front → listing_of (front ++ rest) ≡ listing_of front
 unfolding listing_of
 listing_of_what_is_read front rest h = ap lines_for (read_is_enough front rest h)

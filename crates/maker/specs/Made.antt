@@ -3,7 +3,7 @@ use Rattle.std.specs.Prelude.{ℕ, ◌+◌, ◌*◌, List, leb, length, drop}
 use Rattle.words.specs.Words.{value_at}
 use Rattle.rows.specs.Rows.{Checked, must}
 use Rattle.card.specs.Fields.{largest_given}
-use Rattle.contents.specs.Contents.{Deck, most_cards, read_of_aDeck}
+use Rattle.contents.specs.Contents.{Deck, most_cards, read_of_a_deck}
 use Rattle.problems.specs.Problems.{problem_deck}
 use Rattle.copier.specs.Copy.{copy_of}
 use Rattle.maker.specs.declared.Asked.{Asked}
@@ -29,4 +29,4 @@ read_of_problems = asked_size + largest_given * (most_cards + 1)
 
 abbrev pub read_of : Asked → ℕ
 read_of asked.Problems = read_of_problems
-read_of asked.Copy = read_of_aDeck
+read_of asked.Copy = read_of_a_deck

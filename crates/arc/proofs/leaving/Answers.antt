@@ -1,6 +1,5 @@
 -- `arc::leaving` meets its contract: what both quotients ensure, put in.
 use mathlib.Core.Path.{refl}
-use borrow.Author.Rules.{rules}
 use Rattle.arc.specs.Arc.{departure_in}
 use Rattle.arc.proofs.leaving.Goals as goal
 

@@ -1,6 +1,5 @@
 -- `arc::root_or_nan` meets its contract: what the root says, or NaN.
 use mathlib.Core.Path.{sym, ap, ◌∙◌}
-use borrow.Author.Rules.{rules}
 use lib.Ieee.{div, of_bits}
 use Rattle.root.specs.Said as root
 use Rattle.arc.specs.Arc.{or_nan, root_or_nan}

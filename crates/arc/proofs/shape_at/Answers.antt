@@ -1,6 +1,5 @@
 -- `arc::shape_at` meets its contract: what the functions and both roots ensure, put in.
 use mathlib.Core.Path.{refl}
-use borrow.Author.Rules.{rules}
 use Rattle.arc.specs.Arc.{shape_by}
 use Rattle.arc.proofs.shape_at.Goals as goal
 

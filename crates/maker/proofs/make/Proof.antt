@@ -5,7 +5,7 @@ use native.Mathlib.Omega.{arith}
 use borrow.Author.Rules.{rules}
 use lib.ListN.{take, replicate, length-replicate}
 use Rattle.pieces.proofs.Puts.{InFront}
-use Rattle.contents.specs.Contents.{largest_deck, read_of_aDeck}
+use Rattle.contents.specs.Contents.{largest_deck, read_of_a_deck}
 use Rattle.reply.specs.Reply.{reply_of}
 use Rattle.reply.proofs.Replied.{reply_stands}
 use Rattle.maker.specs.declared.Asked.{Asked}
@@ -15,7 +15,7 @@ use Rattle.maker.proofs.make.Statement.{statement}
 use Rattle.maker.proofs.make.Tie as tie
 
 -- no more is read than of a deck
-read_most : (a : Asked) {n : ℕ} → read_of_aDeck ≤ n → read_of a ≤ n
+read_most : (a : Asked) {n : ℕ} → read_of_a_deck ≤ n → read_of a ≤ n
 read_most asked.Problems h = omega arith
 read_most asked.Copy h = omega arith
 

@@ -1,7 +1,6 @@
 -- `root::root` meets its contract: each case of the tests is one of the definition, and above zero `root_word` gives the definition's root.
 use mathlib.Core.Path.{sym, ap, ◌∙◌, subst}
 use native.Mathlib.Omega.{arith}
-use borrow.Author.Rules.{rules}
 use lib.Ieee.{binary64}
 use Rattle.exact.proofs.Words.{no_nan_word}
 use Rattle.root.specs.declared.Case.TheVariants as case

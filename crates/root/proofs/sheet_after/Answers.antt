@@ -1,7 +1,6 @@
 -- `root::sheet_after` meets its contract: each case of the tests is one of the definition, and above zero `sheet_of` gives the definition's sheet.
 use mathlib.Core.Path.{sym, ap, ◌∙◌, subst}
 use Prim.Native.Nat.{min}
-use borrow.Author.Rules.{rules}
 use lib.Ieee.{Float, binary64}
 use Rattle.exact.specs.Numbers.{steps}
 use Rattle.root.specs.declared.Case.TheVariants as case

@@ -1,8 +1,6 @@
 -- `root::tested` meets its contract: each return is one case of the definition of the root.
 use mathlib.Core.Path.{◌≡◌, sym, ◌∙◌}
 use mathlib.Core.Bool.{true, not}
-use borrow.Author.Rules.{rules}
-use borrow.Author.Tests.{not-true, not-false}
 use lib.Dec.{T}
 use lib.Ieee.{Float, nan, inf, fin, binary64, is_nan}
 use lib.Ieee.Bits.{of_bits-to_bits}

@@ -1,7 +1,6 @@
 -- `search::chosen` meets its contract: each return is one case of the definition.
 use mathlib.Core.Path.{◌≡◌, refl, sym, ◌∙◌}
 use mathlib.Core.Bool.{false}
-use borrow.Author.Rules.{rules}
 use Rattle.search.specs.Search.{inside}
 use Rattle.search.proofs.chosen.Goals as goal
 use Rattle.search.proofs.chosen.Goals.{Else-strictly, Else-strictly-2}

@@ -1,6 +1,5 @@
 -- `search::first` meets its contract: each branch is one case of the definition.
 use mathlib.Core.Path.{refl}
-use borrow.Author.Rules.{rules}
 use Rattle.search.specs.Search.{first_guess}
 use Rattle.search.proofs.first.Goals as goal
 

@@ -1,6 +1,5 @@
 -- `search::next` meets its contract: what the calls ensure, put into the definition, and each branch is one case of which bound was replaced.
 use mathlib.Core.Path.{refl, ◌∙◌}
-use borrow.Author.Rules.{rules}
 use Rattle.search.specs.Search.{next_guess}
 use Rattle.search.proofs.next.Goals as goal
 

@@ -1,11 +1,8 @@
 -- `units::first_not_finite` meets its contract: the row of tests of the numbers that are left comes to what that of all comes to.
-use mathlib.Core.Path.{◌≡◌, refl, sym, ◌∙◌}
-use Prim.Native.Nat.{◌-◌, ◌≤◌}
+use mathlib.Core.Path.{refl, sym, ◌∙◌}
 use native.Mathlib.Omega.{arith}
-use borrow.Author.Rules.{rules}
-use borrow.Author.Tests.{not-true, not-false}
-use Rattle.units.specs.Units.{finite_from, by_place}
-use Rattle.units.proofs.Places.{left, stopped, one_on, all_tested}
+use Rattle.units.specs.Units.{by_place}
+use Rattle.units.proofs.Places.{stopped, one_on, all_tested}
 use Rattle.units.proofs.first_not_finite.Goals as goal
 
 pub loop-place-init : goal.loop-place-init

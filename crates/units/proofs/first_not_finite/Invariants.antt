@@ -1,11 +1,8 @@
 -- What lasts over the turns of `units::first_not_finite`, and why they end.
-use mathlib.Core.Path.{◌≡◌, refl, sym, ◌∙◌}
+use mathlib.Core.Path.{◌≡◌}
 use Prim.Native.Nat.{◌-◌, ◌≤◌}
-use native.Mathlib.Omega.{arith}
-use borrow.Author.Rules.{rules}
-use borrow.Author.Tests.{not-true, not-false}
 use Rattle.units.specs.Units.{finite_from, by_place}
-use Rattle.units.proofs.Places.{left, stopped, one_on, all_tested}
+use Rattle.units.proofs.Places.{left}
 use Rattle.units.proofs.first_not_finite.Given as goal
 
 abbrev pub invariant-loop-place : goal.invariant-loop-place

@@ -1,5 +1,4 @@
 -- `units::given` meets its contract: it tests the list of the numbers given.
-use borrow.Author.Rules.{rules}
 use Rattle.units.proofs.given.Goals as goal
 
 pub returns : goal.returns

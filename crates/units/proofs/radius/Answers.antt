@@ -1,8 +1,6 @@
 -- `units::radius` meets its contract: each return is one way through the definition's row of tests.
 use mathlib.Core.Path.{◌≡◌, refl, sym, ap, ◌∙◌}
 use mathlib.Core.Bool.{true}
-use borrow.Author.Rules.{rules}
-use borrow.Author.Tests.{not-true, not-false}
 use Rattle.root.specs.Said as root
 use Rattle.root.specs.Root.{root_of}
 use Rattle.units.specs.Units.{is_usable, radius_of}
@@ -20,10 +18,10 @@ good c = sym c.usable.ensures ∙ c.if-not-usable.false
 pub returns-in_default : goal.returns-in_default
 unfolding radius_of
 returns-in_default c = rw (
-      ← c.product-square.ensures,
-      good (goal.at.returns-in_default c).Else-not-usable,
-      sym c.root.ensures ∙ ap root.said c.in_default.is,
-    )
+  ← c.product-square.ensures,
+  good (goal.at.returns-in_default c).Else-not-usable,
+  sym c.root.ensures ∙ ap root.said c.in_default.is,
+)
     refl
 
 -- past the root, r0 is what it gave
@@ -33,19 +31,19 @@ given c = sym c.root.ensures ∙ ap root.said c.in-Root.is
 pub returns-then-not-usable-2 : goal.returns-then-not-usable-2
 unfolding radius_of
 returns-then-not-usable-2 c = rw (
-      ← c.product-square.ensures,
-      good (goal.at.returns-then-not-usable-2 c).Else-not-usable,
-      given (goal.at.returns-then-not-usable-2 c).After-usable-2,
-      sym c.usable-2.ensures ∙ c.if-not-usable-2.true,
-    )
+  ← c.product-square.ensures,
+  good (goal.at.returns-then-not-usable-2 c).Else-not-usable,
+  given (goal.at.returns-then-not-usable-2 c).After-usable-2,
+  sym c.usable-2.ensures ∙ c.if-not-usable-2.true,
+)
     refl
 
 pub returns : goal.returns
 unfolding radius_of
 returns c = rw (
-      ← c.product-square.ensures,
-      good (goal.at.returns c).Else-not-usable,
-      given (goal.at.returns c).After-usable-2,
-      sym c.usable-2.ensures ∙ c.if-not-usable-2.false,
-    )
+  ← c.product-square.ensures,
+  good (goal.at.returns c).Else-not-usable,
+  given (goal.at.returns c).After-usable-2,
+  sym c.usable-2.ensures ∙ c.if-not-usable-2.false,
+)
     refl

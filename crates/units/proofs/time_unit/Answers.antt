@@ -1,8 +1,6 @@
 -- `units::time_unit` meets its contract: each return is one way through the definition's row of tests.
 use mathlib.Core.Path.{◌≡◌, refl, sym, ap, ◌∙◌}
 use mathlib.Core.Bool.{true, cond, ◌&&◌}
-use borrow.Author.Rules.{rules}
-use borrow.Author.Tests.{not-true, not-false}
 use Rattle.exact.specs.Numbers.{◌⊗◌, ◌⊘◌}
 use Rattle.root.specs.Said as root
 use Rattle.root.specs.Root.{root_of}

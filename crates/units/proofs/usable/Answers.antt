@@ -1,6 +1,5 @@
 -- `units::usable` meets its contract: what `finite` ensures, put in.
 use mathlib.Core.Path.{refl}
-use borrow.Author.Rules.{rules}
 use Rattle.units.proofs.usable.Goals as goal
 
 pub returns : goal.returns

@@ -1,6 +1,5 @@
 -- `arc::Scaled::time_at` meets its contract: the time in the shape at z.
 use mathlib.Core.Path.{refl}
-use borrow.Author.Rules.{rules}
 use Rattle.arc.specs.Arc.{time_at}
 use Rattle.arc.proofs.Scaled.time_at.Goals as goal
 

@@ -1,7 +1,5 @@
 -- `arc::Scaled::velocity_at` meets its contract: the velocity, where it is finite as the test found it.
 use mathlib.Core.Path.{◌≡◌, refl, sym, ap, ◌∙◌}
-use borrow.Author.Rules.{rules}
-use borrow.Author.Tests.{not-true, not-false}
 use Rattle.rows.specs.Rows.{must}
 use Rattle.arc.specs.Arc.{shape_at, departure_in, velocity_at}
 use Rattle.arc.proofs.Scaled.velocity_at.Goals as goal

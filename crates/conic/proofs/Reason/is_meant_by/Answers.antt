@@ -1,7 +1,5 @@
 -- `Reason::is_meant_by` meets its contract: what `number` ensures, put into it.
 use mathlib.Core.Path.{refl}
-use native.Mathlib.Omega.{arith}
-use borrow.Author.Rules.{rules}
 use Rattle.conic.proofs.Reason.is_meant_by.Goals as goal
 
 pub returns : goal.returns

@@ -1,6 +1,5 @@
 -- `Reason::number` meets its contract: a number given has that of its place, and every other reason its own.
 use mathlib.Core.Path.{refl}
-use borrow.Author.Rules.{rules}
 use Rattle.conic.proofs.Reason.number.Goals as goal
 
 pub returns-in-InputNotFinite : goal.returns-in-InputNotFinite

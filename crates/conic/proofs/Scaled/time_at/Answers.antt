@@ -1,6 +1,5 @@
 -- `Scaled::time_at` meets its contract: the time of the functions at x, or of NaNs.
 use mathlib.Core.Path.{refl, ◌∙◌}
-use borrow.Author.Rules.{rules}
 use Rattle.conic.specs.TimeAndRatio.{time_at}
 use Rattle.conic.proofs.Scaled.time_at.Goals as goal
 

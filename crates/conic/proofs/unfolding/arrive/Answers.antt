@@ -1,11 +1,8 @@
 -- `unfolding::arrive` meets its contract: each return is one way through the definition's row of tests.
 use mathlib.Core.Path.{◌≡◌, refl}
 use mathlib.Core.Bool.{◌&&◌}
-use lib.Ieee.{le}
-use borrow.Author.Rules.{rules}
-use borrow.Author.Tests.{not-true, not-false}
 use Rattle.rows.specs.Rows.{pass, must}
-use Rattle.conic.specs.Unfolding.{least_ratio, arrival_of}
+use Rattle.conic.specs.Unfolding.{arrival_of}
 use Rattle.conic.proofs.unfolding.arrive.Goals as goal
 use Rattle.conic.proofs.unfolding.arrive.Goals.{After-all_finite-2}
 

@@ -1,6 +1,5 @@
 -- `unfolding::arrive_at` meets its contract: the functions at x, their ratio, and the arrival by them; or 6 where they are refused.
 use mathlib.Core.Path.{◌≡◌, refl, sym, ◌∙◌}
-use borrow.Author.Rules.{rules}
 use Rattle.rows.specs.Rows.{onward}
 use Rattle.universal.specs.Functions.{functions_at}
 use Rattle.universal.specs.Said.{valued}

@@ -1,6 +1,5 @@
 -- `unfolding::outcome_of` meets its contract: each arrival is one case of the definition.
 use mathlib.Core.Path.{sym, ap}
-use borrow.Author.Rules.{rules}
 use Rattle.search.specs.Answers.{with_found}
 use Rattle.conic.specs.Said.{arrived}
 use Rattle.conic.proofs.unfolding.outcome_of.Goals as goal

@@ -1,6 +1,5 @@
 -- `unfolding::unfolded_state` meets its contract: what the vectors ensure, put in.
 use mathlib.Core.Path.{refl}
-use borrow.Author.Rules.{rules}
 use Rattle.conic.specs.Unfolding.{unfolded}
 use Rattle.conic.proofs.unfolding.unfolded_state.Goals as goal
 

@@ -1,6 +1,5 @@
 -- `root::digits::form_of` meets its contract: the word's fields say how many steps its number is, and `moved_up` brings these to the form.
 use native.Mathlib.Omega.{arith}
-use borrow.Author.Rules.{rules}
 use Rattle.root.proofs.Form.{low_steps, high_steps}
 use Rattle.root.proofs.digits.form_of.Goals as goal
 

@@ -3,7 +3,6 @@ use mathlib.Core.Path.{◌≡◌}
 use Prim.Native.Nat.{ℕ, ◌-◌, ◌*◌, ◌%◌, ◌^◌}
 use native.Mathlib.Nat.{lt_of_lt_of_le, mul-one, mod-eq_of_lt}
 use native.Mathlib.Omega.{arith}
-use borrow.Author.Rules.{rules}
 use lib.Dec.{lit≤}
 use lib.Count.{count_leading_zeros}
 use Rattle.root.proofs.Form.{MovedUp, moved_up, in_form}

@@ -1,6 +1,5 @@
 -- `root::digits::root_word` meets its contract: on the last sheet the digits are the whole root, so the word has the root's shape, and so is the definition's root.
 use native.Mathlib.Omega.{arith}
-use borrow.Author.Rules.{rules}
 use lib.Ieee.{binary64, of_bits}
 use lib.Ieee.Bits.{of_bits-fits}
 use Rattle.root.proofs.Shape.{written, is_nearest_root}

@@ -1,6 +1,5 @@
 -- `root::digits::turn` meets its contract: it is a turn of the rules, which keeps the sentence (`turn_holds`). The digits have room, since their square is no more than the radicand.
 use native.Mathlib.Omega.{arith}
-use borrow.Author.Rules.{rules}
 use Rattle.root.specs.Paper.{pair_of}
 use Rattle.root.proofs.Paper.{digits_small, pairs_small, Settles, turn_settles, turn_holds}
 use Rattle.root.proofs.digits.turn.Goals as goal

@@ -1,8 +1,6 @@
 -- `root::digits::worked` meets its contract. The invariant is the sentence that holds on each sheet: the square of the digits, plus the remainder, is the part of the radicand that was
 -- brought down, and no other digits leave a remainder as small. The measure is the number of pairs still to come.
 use native.Mathlib.Omega.{arith}
-use Prim.Native.Nat.{◌≤◌}
-use Rattle.root.specs.Paper.{OnPaper}
 use Rattle.root.proofs.Paper.{first_holds}
 use Rattle.root.proofs.digits.worked.Goals as goal
 

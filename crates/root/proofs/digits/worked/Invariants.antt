@@ -1,8 +1,6 @@
 -- What lasts over the turns of `root::digits::worked`, and why they end.
-use native.Mathlib.Omega.{arith}
 use Prim.Native.Nat.{◌≤◌}
 use Rattle.root.specs.Paper.{OnPaper}
-use Rattle.root.proofs.Paper.{first_holds}
 use Rattle.root.proofs.digits.worked.Given as goal
 
 abbrev pub invariant-loop-sheet : goal.invariant-loop-sheet

@@ -1,0 +1,36 @@
+-- `predicted::put_words` meets its contract. The invariant: the words that are left, written behind what stands, are all words.
+use mathlib.Core.Path.{◌≡◌, sym, ap, ◌∙◌}
+use mathlib.Core.List.{List, [], ◌++◌}
+use Prim.Native.Nat.{ℕ, ◌+◌, ◌-◌, ◌≤◌, ◌<◌}
+use native.Mathlib.Numerals.{add-one}
+use native.Mathlib.Omega.{arith}
+use borrow.Author.Rules.{rules}
+use lib.ListN.{length, drop, get_or, drop_of_length-le}
+use lib.Seq.{drop-cons}
+use Rattle.pieces.proofs.Puts.{wrote}
+use Rattle.pieces.proofs.InPieces.{InPieces, nothing_yet, one_on, all_there}
+use Rattle.spelled.specs.Spelled.{bytes_of}
+use Rattle.words.specs.Words.{words_bytes}
+use Rattle.predicted.proofs.put_words.Goals as goal
+
+-- the next word, and those behind it
+first : (list : List ℕ) (i : ℕ) → i < length list → bytes_of 8 (get_or list i 0) ++ words_bytes (drop (i + 1) list) ≡ words_bytes (drop i list)
+unfolding words_bytes
+first list i h = ap (λ (n : ℕ). bytes_of 8 (get_or list i 0) ++ words_bytes (drop n list)) (add-one i) ∙ sym (ap words_bytes (drop-cons list i 0 h))
+
+-- after the last one
+none_left : (list : List ℕ) (i : ℕ) → length list ≤ i → words_bytes (drop i list) ≡ []
+unfolding words_bytes
+none_left list i h = ap words_bytes (drop_of_length-le list h)
+
+pub loop-i-init : goal.loop-i-init
+loop-i-init c = nothing_yet (words_bytes c.args.list.now) c.requires
+
+pub loop-i-preserved : goal.loop-i-preserved
+loop-i-preserved c = one_on c.loop-i.invariant (first c.args.list.now c.loop-i.i (omega arith)) (wrote (c.put_word-end.ensures.value, c.put_word-end.ensures.out_after))
+
+pub returns : goal.returns
+returns c = all_there c.loop-i.invariant (none_left c.args.list.now c.loop-i.i (omega arith))
+
+pub shape_of-out : goal.shape_of-out
+shape_of-out c = c.loop-i.invariant.as_long
