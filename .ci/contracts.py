@@ -3,9 +3,13 @@
 For .ci/statements. It reads text that `rt fmt` has laid out, and what it can't read, it refuses (Unread)."""
 import re
 
-# the operators that a contract may bring in (a name with _ is one), and names that have to be the library's
-LIBRARY = {"_≡_": "mathlib.Core.Path", "length": "lib.ListN", "min": "Prim.Native.Nat"} | {f"_{o}_": "Prim.Native.Nat" for o in "+-*/%^≤<"}
-WORD = r"[\w·'⁺-]+(?:\.[\w·'-]+)*"
+# the operators that a contract may bring in (a name with ◌ is one), and names that have to be the library's
+PRELUDE = "Rattle.std.specs.Prelude"
+LIBRARY = {"length", "min"} | {f"◌{o}◌" for o in "≡+-*/%^≤<"}
+# what a clause has without bringing it: the result, and what a reference lends, now, before and after
+SPOKEN = ("result", "now", "old", "new")
+NAME = r"[\w'⁺]+"
+WORD = rf"{NAME}(?:\.{NAME})*"
 
 
 class Unread(Exception):
@@ -16,9 +20,9 @@ class Function:
     def __init__(self, name, head, requires, ensures, uses):
         self.name = name  # crate::module::name
         self.requires = requires
-        self.ensures = ensures  # the text of each clause
+        self.ensures = ensures  # the text of each clause, without its name
         self.uses = uses  # what `ghost use` brings: name -> (module, name there)
-        parameters, self.answers = head  # .. and whether it has a result
+        parameters, self.answers, self.bounds = head  # .. whether it has a result, and its parameters of type, if any
         parameters = re.sub(r"&\s+", "&", parameters)
         self.parameters = re.findall(r"(\w+): ", parameters) + ["self"] * bool(re.match(r"(mut )?self\b", parameters))
         self.references = re.findall(r"(\w+): &", parameters)
@@ -68,7 +72,7 @@ def plain_names(text):
     paths = re.findall(item + r"([^\s.;{]+)\.", text, re.M)
     named = re.findall(item + r"[^\s{]+ as ([^\s;]+)", text, re.M) + re.findall(r"^(?:pub )?mod ([^\s;]+)$", text, re.M)
     for name in named:
-        if name in paths or not re.fullmatch(r"[a-z][a-z0-9-]*", name):
+        if name in paths or not re.fullmatch(r"[a-z][\w-]*", name):
             raise Unread(f"'{name}' is given to something of its own, and a library's path could be read by it")
 
 
@@ -78,7 +82,7 @@ def place_of(uses, name):
     if (alias + dot if dot else name) not in uses:
         return None
     module, there = uses[alias + dot if dot else name]
-    own = re.fullmatch(r"Rattle·(\w+)(?:·(?:specs|proofs))?\.(specs|proofs)\.([\w.]+)", module)
+    own = re.fullmatch(r"Rattle\.(?!std\.)(\w+)\.(specs|proofs)\.([\w.]+)", module)
     file = f"crates/{own[1]}/{own[2]}/{own[3].replace('.', '/')}.antt" if own else module
     return file, there or last
 
@@ -87,21 +91,23 @@ def place_of(uses, name):
 
 
 def clauses(text, place):
-    """The clauses from place on: (requires, ensures)."""
+    """The clauses from place on, up to the body: (requires, ensures)."""
     found = {"requires": [], "ensures": []}
-    while clause := re.compile(r"\s*(requires|ensures) (?=\{)").match(text, place):
+    while clause := re.compile(r"\s*(requires|ensures)(?: \w+)? (?=\{)").match(text, place):
         place = closing(text, clause.end())
         found[clause[1]].append(" ".join(text[clause.end() + 1:place - 1].split()))
+    if not re.compile(r"\s*\{").match(text, place):
+        raise Unread(f"a clause of another kind, '{text[place:].strip().splitlines()[0]}'")
     return found["requires"], found["ensures"]
 
 
 def function_at(text, start, prefix, uses):
-    head = re.compile(r'pub (?:extern "C" )?fn (\w+)').match(text, start)
+    head = re.compile(r'pub (?:extern "C" )?fn (\w+)(<[^()]*>)?').match(text, start)
     if not head or text[head.end()] != "(":
         raise Unread("a public function whose head is another")
     end = closing(text, head.end())
     result = re.compile(r"\s*->\s*[^{\n]+").match(text, end)
-    parts = (text[head.end() + 1:end - 1].strip(), bool(result))
+    parts = (text[head.end() + 1:end - 1].strip(), bool(result), head[2])
     return Function(f"{prefix}::{head[1]}", parts, *clauses(text, result.end() if result else end), uses)
 
 
@@ -137,6 +143,9 @@ def functions_of(folder, crate):
     """The public functions of a crate. In a private module none may be public: an `impl` there could be reached."""
     public = set()
     yield from functions_in(folder / "lib.rt", crate, folder, public)
+    for file in sorted(folder.rglob("*.rt")):
+        if re.search(r"^\s*impl\b[^{]*\bModel\b", file.read_text("utf-8"), re.M):
+            raise Unread(f"an `impl Model` in {file.name}: a clause would read a value as something else")
     for file in sorted(set(folder.rglob("*.rt")) - public):
         if re.search(r"^\s*pub .*\bfn |^\s*(pub(\(\w+\))? )?mod .*\{", file.read_text("utf-8"), re.M):
             raise Unread(f"a public function, or a module in braces, in the private module {file.name}: pub(crate) is meant")
@@ -163,9 +172,9 @@ class Equation:
 
 def sides(text):
     """The words on both sides of the one ≡."""
-    if re.sub(rf"{WORD}|\.[\w·'-]+|[()≡\s]", "", text):
+    if re.sub(rf"{WORD}|\.{NAME}|[()≡\s]", "", text):
         raise Unread("it has more in it than names, brackets and one ≡")
-    words = re.findall(rf"{WORD}|\.[\w·'-]+|[()≡]", text)
+    words = re.findall(rf"{WORD}|\.{NAME}|[()≡]", text)
     if words.count("≡") != 1:
         raise Unread("it is no equation")
     left, right = words[:words.index("≡")], words[words.index("≡") + 1:]
@@ -177,31 +186,28 @@ def sides(text):
 
 def defined(function, words):
     """The right side is made of what was given and of what `ghost use` brings, and of nothing else."""
-    for word, after in zip(words, words[1:] + [""]):
-        if word in function.references:
-            known = after == ".entry"
-        else:
-            known = word in ("(", ")", "now", ".entry") or word.isdecimal() or word in function.parameters
-        if not known and not place_of(function.uses, word):
+    plain = set(function.parameters) - set(function.references)
+    given = {f"{name}.{'old' if name in function.lent else 'now'}" for name in function.references}
+    for word in words:
+        if word in ("(", ")") or word.isdecimal() or word in plain | given:
+            continue
+        if word in function.references or word.partition(".")[0] in function.references or not place_of(function.uses, word):
             raise Unread(f"'{word}' on its right side is nothing that was given or brought")
 
 
 def equation(function, clause):
     """The equation that an `ensures` is, if it has one of the three forms."""
-    form = re.fullmatch(r"λ (\w+)\. ⌜ (.*) ⌝", clause)
-    if not form:
-        raise Unread("it is no λ r. ⌜ .. ⌝")
-    result, (left, right) = form[1], sides(form[2])
-    if result in right or ".exit" in right:
+    left, right = sides(clause)
+    if "result" in right or any(re.search(r"\.new$", word) for word in right):
         raise Unread("the right side names the result, or something at exit")
     defined(function, right)
-    if left == [result]:
-        return Equation(form[2], "", "")
-    if len(left) == 2 and left[1] == result:
-        return Equation(form[2], "", left[0])
-    if len(left) == 5 and left[0] == "now" and left[1::2] == ["(", ".exit"] and left[4] == ")":
-        return Equation(form[2], left[2], "")
-    raise Unread("the left side is neither r, nor S r, nor now (p .exit)")
+    if left == ["result"]:
+        return Equation(clause, "", "")
+    if len(left) == 2 and left[1] == "result":
+        return Equation(clause, "", left[0])
+    if len(left) == 1 and left[0].endswith(".new"):
+        return Equation(clause, left[0][:-len(".new")], "")
+    raise Unread("the left side is neither result, nor S result, nor p.new")
 
 
 def equations_of(function, fault):
@@ -226,13 +232,13 @@ def equations_of(function, fault):
 
 def same_meaning(uses, parameters, fault):
     """What a contract is written with is the library's."""
-    if "_≡_" not in uses:
+    if "◌≡◌" not in uses:
         fault("no `ghost use` brings its ≡")
     for name, (module, there) in uses.items():
-        if name in LIBRARY and (module, there) != (LIBRARY[name], name):
-            fault(f"its {name} is the {there} of {module}, and not that of {LIBRARY[name]}")
-        elif name == "now" or (name not in LIBRARY and not re.fullmatch(r"([^\W_]|[·'-])+\.?", name)):
-            fault(f"`ghost use` brings a {name} of its own")
+        own = name in SPOKEN or not re.fullmatch(rf"{NAME}\.?", name)
+        if (name in LIBRARY or own) and (module, there) != (PRELUDE, name):
+            what = f"its {name} is the {there} of {module}, and not that of {PRELUDE}"
+            fault(what if name in LIBRARY else f"`ghost use` brings a {name} of its own")
     for name in parameters:
-        if name == "now" or name in uses:
+        if name in SPOKEN or name in uses:
             fault(f"the parameter {name} hides another meaning")

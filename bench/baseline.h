@@ -1,6 +1,6 @@
 /* The three things that are measured: the proved functions of crates/linked, and the same steps in C,
- * bench/baseline.c and bench/transfer.c, in their two builds. The types are made here, since where the
- * kit's clang is the compiler no header of C's is at hand. */
+ * bench/baseline.c and bench/transfer.c, in their two builds. The types are made here, so that no header
+ * of C's is needed. A slice of the proved functions is a pointer and, behind it, a length. */
 #ifndef BASELINE_H
 #define BASELINE_H
 

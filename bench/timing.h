@@ -1,5 +1,5 @@
-/* What both programs of the bench need of the C library, whose headers may not be at hand (baseline.h):
- * reading, printing, and a clock. */
+/* What both programs of the bench need of the C library, without its headers: reading, printing, and a
+ * clock. */
 #ifndef TIMING_H
 #define TIMING_H
 

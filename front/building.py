@@ -4,27 +4,29 @@ from __future__ import annotations
 
 import fcntl
 import os
+import re
 import select
 import subprocess
-import time
 
-from front import streams
+from front import kit, streams
 from front.built import CRATES, Program
 from front.streams import Stop
 
 # How long rt has to be quiet, in seconds, before it is said what it proves.
 QUIET = 0.3
+# The lines in which rt names the crate that it is at: it begins with it, or has proved something of it.
+AT = re.compile(r"^(?:rt: chose --jobs \d+ for (\w+)|rt: (\w+): begins with .*|\w+ (\w+)::.*: proved)$", re.M)
 
 
 def build(program: Program, rt: str) -> None:
-    """Proves and builds the program; Stop where that fails. One such build at a time goes on here."""
+    """Proves and builds the program; Stop where that fails. One such build of it at a time goes on here."""
     name = program.name
-    if not os.path.isfile(os.path.join(program.top, CRATES, name, "src", "main.rt")):
+    if not os.path.isfile(os.path.join(program.folder, "src", "main.rt")):
         raise Stop(f"there is no program {name}: {CRATES}/{name}/src/main.rt is missing")
     built = program.is_built()
     if not os.access(rt, os.X_OK):
         which = "older than its sources" if built else "not built"
-        raise Stop(f"{name} is {which}, and 'rt', which would build it, is missing")
+        raise Stop(f"{name} is {which}, and the Rattle kit, which would build it, is missing: {kit.WHERE}")
     with lock(program):
         if program.is_fresh():
             return
@@ -37,11 +39,11 @@ def build(program: Program, rt: str) -> None:
 
 
 def lock(program: Program):
-    """A file that is held as long as the build goes on."""
+    """A file that is held as long as the build goes on. Builds of two programs wait for each other in rt."""
     folder = os.path.dirname(program.stamp)
     try:
         os.makedirs(folder, exist_ok=True)
-        held = open(os.path.join(folder, "lock"), "w")
+        held = open(os.path.join(folder, "front.lock"), "w")
         take(held, program.name)
     except OSError as failure:
         raise Stop(f"{program.name} can't be built: {failure.filename or folder}: {failure.strerror}") from None
@@ -53,7 +55,7 @@ def take(held, name: str) -> None:
     try:
         fcntl.flock(held, fcntl.LOCK_EX | fcntl.LOCK_NB)
     except BlockingIOError:
-        streams.say(f"{name} has to be built, and another build is going on; waiting for its end")
+        streams.say(f"{name} has to be built, and another build of it is going on; waiting for its end")
         fcntl.flock(held, fcntl.LOCK_EX)
 
 
@@ -67,9 +69,9 @@ def built_as_it_stands(program: Program, rt: str) -> bool:
     status, said = run_rt(program, rt)
     if status != 0:
         streams.write(2, said)
-        raise Stop(f"{name} was not built: 'rt check {name}' failed")
+        raise Stop(f"{name} was not built: 'rt run' in {CRATES}/{name} failed")
     if not program.is_built():
-        raise Stop(f"{name} was not built: 'rt check {name}' left no target/bin/{name}")
+        raise Stop(f"{name} was not built: 'rt run' left no {CRATES}/{name}/out/{name}")
     if program.sources() != before:
         return False
     write_stamp(program, program.state(before))
@@ -83,10 +85,11 @@ def write_stamp(program: Program, state: str) -> None:
 
 
 def run_rt(program: Program, rt: str) -> tuple[int, bytes]:
-    """Runs 'rt check', says which crate it is at, and gives its status and all that it printed."""
+    """Has rt prove, build and run the program, on no input; says which crate it is at, and gives its status
+    and all that was printed."""
     child = subprocess.Popen(
-        [rt, "check", program.name],
-        cwd=program.top,
+        [rt, "run"],
+        cwd=program.folder,
         env={**os.environ, "LC_ALL": "C"},
         stdin=subprocess.DEVNULL,
         stdout=subprocess.PIPE,
@@ -94,22 +97,20 @@ def run_rt(program: Program, rt: str) -> tuple[int, bytes]:
     )
     try:
         with child.stdout as source:
-            said = follow(source.fileno(), program)
+            said = follow(source.fileno(), program.crates())
         return child.wait(), said
     except BaseException:
         child.terminate()
         raise
 
 
-def follow(source: int, program: Program) -> bytes:
+def follow(source: int, crates: list[str]) -> bytes:
     """Reads what rt prints to its end. Where rt is quiet, it is said which crate is being proved."""
-    crates = program.crates() or [program.name]
-    began = time.time()
     said = b""
     told = ""
     while True:
         if not select.select([source], [], [], QUIET)[0]:
-            crate = at_work(program.top, unproved(said, crates), began)
+            crate = at_work(said, crates)
             if crate != told:
                 streams.say(f"proving {crate}, {crates.index(crate) + 1} of {len(crates)}")
                 told = crate
@@ -120,22 +121,7 @@ def follow(source: int, program: Program) -> bytes:
         said += block
 
 
-def unproved(said: bytes, crates: list[str]) -> list[str]:
-    """The crates of which rt has not yet said, in a line of its own, what became of them."""
-    words = [line.split(" ") for line in said.decode("utf-8", "replace").split("\n")]
-    ended = {line[1] for line in words if line[0] == "rt:" and len(line) > 2}
-    return [crate for crate in crates if crate not in ended] or crates[-1:]
-
-
-def at_work(top: str, crates: list[str], began: float) -> str:
-    """The first of the crates that rt is at. It proves some side by side, and speaks of them together;
-    till then the log of each that it has begun is empty."""
-    for crate in crates:
-        try:
-            log = os.stat(os.path.join(top, "target", "log", crate + ".out"))
-        except OSError:
-            continue
-        # A file's time can lie a little before the clock's.
-        if log.st_size == 0 and log.st_mtime > began - 1:
-            return crate
-    return crates[0]
+def at_work(said: bytes, crates: list[str]) -> str:
+    """The crate that rt named last; empty where it has named none yet."""
+    named = ["".join(words) for words in AT.findall(said.decode("utf-8", "replace"))]
+    return next((crate for crate in reversed(named) if crate in crates), "")

@@ -1,10 +1,11 @@
 """Programs that are built, and no older than their sources; building where they are not.
 
-The sources of a program are the files of its crate and of all crates that it stands on, without their
-must-fail edits and the file `stdout`, and crates.txt. Where the front has built the program, or begun
-to, a stamp says of which state; the program may then be run where it and its sources are in that very
-state. Where there is no stamp, it may be run where it is newer than all of them, their folders too.
-Else `rt check` proves and builds it first.
+The program NAME stands as crates/NAME/out/NAME, where `rt run` and `rt ci` leave it. Its sources are what
+stands in src/, specs/ and proofs/ of its crate and of all crates that it stands on, and crates.txt. Where
+the front has built the program, or begun to, a stamp beside it says of which state; the program may then
+be run where it and its sources are in that very state. Where there is no stamp, as behind `rt ci`, which
+empties that folder, it may be run where it is newer than all of them, their folders too. Else `rt run`
+proves and builds it first.
 """
 
 from __future__ import annotations
@@ -16,7 +17,8 @@ from front.streams import Stop
 
 LISTED = "crates.txt"
 CRATES = "crates"
-NO_SOURCES = ("must-fail", "stdout")
+PARTS = ("src", "specs", "proofs")
+MADE = "out"
 LETTERS = frozenset("abcdefghijklmnopqrstuvwxyz0123456789_")
 
 
@@ -26,13 +28,13 @@ def ready(name: str, top: str = TOP) -> list[str]:
     Standard input is left alone: it is the program's."""
     if not name or not LETTERS.issuperset(name):
         raise Stop(f"'{name}' is not a program's name")
-    found = kit.find()
+    kit.need_machine()
     program = Program(name, top)
     if not program.is_fresh():
         from front import building
 
-        building.build(program, found.rt)
-    return [*found.under, program.path]
+        building.build(program, kit.find())
+    return [program.path]
 
 
 class Program:
@@ -41,12 +43,13 @@ class Program:
     def __init__(self, name: str, top: str) -> None:
         self.name = name
         self.top = top
-        self.path = os.path.join(top, "target", "bin", name)
-        self.stamp = os.path.join(top, "target", "front", name)
+        self.folder = os.path.join(top, CRATES, name)
+        self.path = os.path.join(self.folder, MADE, name)
+        self.stamp = os.path.join(self.folder, MADE, "front.stamp")
 
     def is_built(self) -> bool:
         """Whether there is one at all."""
-        return os.path.isfile(self.path) and os.access(self.path, os.X_OK)
+        return kit.is_program(self.path)
 
     def is_fresh(self) -> bool:
         """Whether it may be run as it is. Where there are no sources, nothing is newer."""
@@ -68,7 +71,8 @@ class Program:
         listed = os.path.join(self.top, LISTED)
         found = [told(LISTED, os.stat(listed))]
         for crate in self.crates():
-            found += walk(os.path.join(self.top, CRATES, crate), os.path.join(CRATES, crate))
+            for part in PARTS:
+                found += walk(os.path.join(self.top, CRATES, crate, part), f"{CRATES}/{crate}/{part}")
         return found
 
     def state(self, sources: list[tuple[str, int, int]]) -> str:
@@ -79,18 +83,18 @@ class Program:
     def crates(self) -> list[str]:
         """The program's crate and those that it stands on, in the order in which rt proves them."""
         below = standing(self.top)
-        levels: dict[str, int] = {}
         entered = set()
+        order: list[str] = []
 
-        def visit(crate: str) -> int:
-            if crate not in entered:
+        def visit(crate: str) -> None:
+            if crate in below and crate not in entered:
                 entered.add(crate)
-                levels[crate] = max((visit(one) + 1 for one in below[crate] if one in below), default=0)
-            return levels.get(crate, 0)
+                for one in below[crate]:
+                    visit(one)
+                order.append(crate)
 
-        if self.name in below:
-            visit(self.name)
-        return sorted(levels, key=lambda crate: levels[crate])
+        visit(self.name)
+        return order
 
 
 def standing(top: str) -> dict[str, list[str]]:
@@ -98,22 +102,21 @@ def standing(top: str) -> dict[str, list[str]]:
     below = {}
     with open(os.path.join(top, LISTED), encoding="utf-8") as listed:
         for line in listed:
-            name, colon, others = line.partition("#")[0].partition(":")
-            if colon:
-                below[name.strip()] = others.split()
+            words, colon, others = line.partition("#")[0].partition(":")
+            if colon and words.split():
+                # Behind the name may stand what kind of crate it is.
+                below[words.split()[0]] = others.split()
     return below
 
 
 def walk(folder: str, shown: str) -> list[tuple[str, int, int]]:
-    """The folder and the sources in it. A folder changes where a file in it comes, goes or is moved."""
+    """The folder and the files in it; nothing where there is none. A folder changes where a file in it comes, goes or is moved."""
     try:
         found = [told(shown, os.stat(folder))]
         entries = sorted(os.scandir(folder), key=lambda entry: entry.name)
     except FileNotFoundError:
         return []
     for entry in entries:
-        if entry.name in NO_SOURCES:
-            continue
         path = f"{shown}/{entry.name}"
         if entry.is_dir():
             found += walk(entry.path, path)

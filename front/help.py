@@ -102,7 +102,7 @@ above: 22, and not 022. Without a NUMBER it prints each that there is, and in sh
 
 A program that is not built yet, or is older than its sources, is first proved and built with the
 Rattle kit; standard error tells which crate is being proved. RATTLE_HOME names the kit's folder
-where it is not the one of the 'rt' on the PATH.
+where no 'rt' is on the PATH. The programs run on x86-64 alone.
 
 Status: 0 every answer is solved, a root or a series, every card that is written is solved, no card
 of the deck is rejected, why has an entry;

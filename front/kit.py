@@ -1,9 +1,7 @@
-"""The Rattle kit: where it is, and how its programs are run.
+"""The Rattle kit: where its `rt` is; and how programs are run.
 
-The programs are for x86-64 and run as the kit's own `rt` runs them: under the kit's loader and C
-library, and on another processor under its emulator. `python3 -m front.kit`, at the top of the
-repository, prints a line each: the path of rt, the folder of the kit's tools, and each of the words
-that stand before a program's name where it is run.
+The programs are for x86-64 and run as they are, with the machine's own C library, as the kit's `rt` runs
+them. `python3 -m front.kit`, at the top of the repository, prints the path of rt.
 """
 
 from __future__ import annotations
@@ -17,48 +15,34 @@ TYPE_CHECKING = False
 if TYPE_CHECKING:
     from typing import Iterable
 
-LOADER = os.path.join("lib", "ld-linux-x86-64.so.2")
-EMULATOR = os.path.join("bin", "qemu-x86_64")
+MACHINE = "x86_64"
+WHERE = "put its 'rt' on the PATH, or set RATTLE_HOME to its folder"
 
 
-class Kit:
-    """Where the kit's parts are: rt, its tools, and the words that a program is run under."""
-
-    def __init__(self, rt: str, tools: str, under: list[str]) -> None:
-        self.rt = rt
-        self.tools = tools
-        self.under = under
-
-
-def find() -> Kit:
-    """The kit that RATTLE_HOME names, else that of the 'rt' on the PATH."""
-    rt = on_path("rt")
+def find() -> str:
+    """The 'rt' on the PATH, else that of the kit that RATTLE_HOME names; empty where there is neither."""
     home = os.environ.get("RATTLE_HOME", "")
-    if home:
-        rt = rt or os.path.join(home, "bin", "rt")
-    elif rt:
-        home = os.path.dirname(os.path.dirname(os.path.realpath(rt)))
-    else:
-        raise Stop("the Rattle kit is missing: put its 'rt' on the PATH, or set RATTLE_HOME to its folder")
+    beside = os.path.join(home, "bin", "rt")
+    return on_path("rt") or (beside if home and is_program(beside) else "")
+
+
+def need_machine() -> None:
+    """Stops where the programs can't run."""
     machine = os.uname().machine
-    tools = os.path.join(home, "on", machine, "toolchain")
-    loader = os.path.join(tools, LOADER)
-    if not os.path.isfile(loader):
-        raise Stop(f"the Rattle kit at {home} has no loader for programs on this machine, {machine}")
-    under = [loader, "--library-path", os.path.join(tools, "lib")]
-    emulator = os.path.join(tools, EMULATOR)
-    if os.access(emulator, os.X_OK):
-        under.insert(0, emulator)
-    elif machine != "x86_64":
-        raise Stop(f"the Rattle kit at {home} has no emulator for this machine, {machine}")
-    return Kit(rt, tools, under)
+    if machine != MACHINE:
+        raise Stop(f"the programs run on x86-64 alone, and this machine is {machine}")
+
+
+def is_program(path: str) -> bool:
+    """Whether a file that can be run stands at the path."""
+    return os.path.isfile(path) and os.access(path, os.X_OK)
 
 
 def on_path(name: str) -> str:
     """The first program of that name on the PATH; empty where there is none."""
     for folder in os.environ.get("PATH", os.defpath).split(os.pathsep):
         path = os.path.join(folder or ".", name)
-        if os.path.isfile(path) and os.access(path, os.X_OK):
+        if is_program(path):
             return path
     return ""
 
@@ -149,11 +133,14 @@ def failed(command: list[str]) -> Stop:
 def main() -> int:
     """What `bench/run` and `bench/root` ask for."""
     try:
-        kit = find()
+        need_machine()
+        rt = find()
+        if not rt:
+            raise Stop(f"the Rattle kit is missing: {WHERE}")
     except Stop as stop:
         streams.say(str(stop))
         return 2
-    print(kit.rt, kit.tools, *kit.under, sep="\n")
+    print(rt)
     return 0
 
 

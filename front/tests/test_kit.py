@@ -15,13 +15,12 @@ class Finding(unittest.TestCase):
         folder = tempfile.TemporaryDirectory()
         self.addCleanup(folder.cleanup)
         self.home = os.path.realpath(folder.name)
-        self.tools = os.path.join(self.home, "on", os.uname().machine, "toolchain")
 
-    def make(self, *parts):
+    def make(self, *parts, mode=0o755):
         path = os.path.join(self.home, *parts)
         os.makedirs(os.path.dirname(path), exist_ok=True)
         with open(path, "w", encoding="utf-8"):
-            os.chmod(path, 0o755)
+            os.chmod(path, mode)
         return path
 
     def find(self, **environment):
@@ -29,34 +28,37 @@ class Finding(unittest.TestCase):
             return kit.find()
 
     def test_by_its_home_and_by_the_path(self):
-        loader = self.make(self.tools, kit.LOADER)
-        emulator = self.make(self.tools, kit.EMULATOR)
         rt = self.make("bin", "rt")
-        under = [emulator, loader, "--library-path", os.path.join(self.tools, "lib")]
-        for found in (self.find(RATTLE_HOME=self.home, PATH=""), self.find(PATH="/none:" + os.path.dirname(rt))):
-            self.assertEqual((found.rt, found.tools, found.under), (rt, self.tools, under))
+        self.assertEqual(self.find(RATTLE_HOME=self.home, PATH=""), rt)
+        self.assertEqual(self.find(PATH="/none:" + os.path.dirname(rt)), rt)
 
-    def test_a_link_to_rt_leads_to_its_home(self):
-        self.make(self.tools, kit.LOADER)
-        self.make(self.tools, kit.EMULATOR)
+    def test_the_path_comes_first(self):
         self.make("bin", "rt")
-        os.mkdir(os.path.join(self.home, "elsewhere"))
-        link = os.path.join(self.home, "elsewhere", "rt")
-        os.symlink("../bin/rt", link)
-        found = self.find(PATH=os.path.dirname(link))
-        self.assertEqual((found.rt, found.tools), (link, self.tools))
+        other = self.make("other", "rt")
+        self.assertEqual(self.find(RATTLE_HOME=self.home, PATH=os.path.dirname(other)), other)
 
-    def test_what_is_missing_is_named(self):
-        with self.assertRaisesRegex(streams.Stop, "the Rattle kit is missing"):
-            self.find(PATH="/none")
-        with self.assertRaisesRegex(streams.Stop, "has no loader"):
-            self.find(RATTLE_HOME=self.home, PATH="")
-        loader = self.make(self.tools, kit.LOADER)
-        if os.uname().machine == "x86_64":
-            self.assertEqual(self.find(RATTLE_HOME=self.home, PATH="").under[0], loader)
-            return
-        with self.assertRaisesRegex(streams.Stop, "has no emulator"):
-            self.find(RATTLE_HOME=self.home, PATH="")
+    def test_where_there_is_none(self):
+        self.assertEqual(self.find(PATH="/none"), "")
+        self.assertEqual(self.find(RATTLE_HOME=self.home, PATH="/none"), "")
+        self.make("bin", "rt", mode=0o644)
+        self.assertEqual(self.find(RATTLE_HOME=self.home, PATH="/none"), "", "it can't be run")
+
+    def test_what_the_bench_asks_for(self):
+        rt = self.make("bin", "rt")
+        for find, machine, status, said in (
+            (rt, "x86_64", 0, rt),
+            ("", "x86_64", 2, f"the Rattle kit is missing: {kit.WHERE}"),
+            (rt, "aarch64", 2, "the programs run on x86-64 alone, and this machine is aarch64"),
+        ):
+            uname = mock.patch("os.uname", return_value=mock.Mock(machine=machine))
+            with self.subTest(said), uname, mock.patch.object(kit, "find", return_value=find):
+                self.assertEqual(self.printed(), (status, said))
+
+    def printed(self):
+        """The status of `python3 -m front.kit`, and what it prints or says."""
+        with mock.patch("builtins.print") as printed, mock.patch.object(streams, "say") as said:
+            status = kit.main()
+        return status, "".join(str(call.args[0]) for call in [*printed.call_args_list, *said.call_args_list])
 
 
 class Running(unittest.TestCase):
