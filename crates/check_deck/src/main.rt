@@ -3,7 +3,7 @@
 #![tactic(auto)]
 
 ghost use Rattle.std.specs.Prelude.{◌≡◌, ◌≤◌, length};
-ghost use Rattle.io.specs.Counts.{IsPrefixLen};
+ghost use Rattle.stdio.specs.Counts.{IsPrefixLen};
 ghost use Rattle.contents.specs.Contents.{read_of_aDeck};
 ghost use Rattle.listing.specs.Listing.{listing_of};
 

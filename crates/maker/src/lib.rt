@@ -6,7 +6,7 @@
 #![tactic(auto)]
 
 ghost use Rattle.std.specs.Prelude.{◌≡◌, ◌≤◌, length};
-ghost use Rattle.io.specs.Counts.{IsPrefixLen};
+ghost use Rattle.stdio.specs.Counts.{IsPrefixLen};
 ghost use Rattle.layout.specs.Written.{length_for, buffer_after, said};
 ghost use Rattle.reply.specs.Reply.{reply_of};
 ghost use Rattle.maker.specs.Made.{asked_deck, deck_made, read_of};
