@@ -7,28 +7,30 @@ ghost use Rattle.stdio.specs.Counts.{IsPrefixLen};
 ghost use Rattle.contents.specs.Contents.{read_of_aDeck};
 ghost use Rattle.listing.specs.Listing.{listing_of};
 
+use std::io::{Read, Write};
+
 // One byte more than the largest deck has: what is longer has bytes left over, or is refused before.
 const MOST: usize = contents::LARGEST_DECK + 1;
 
-fn main() {
-    let mut space = io::large_buffer();
-    let got = read(&mut space, MOST);
+fn main(rt: HostRuntime) {
+    let mut space = [0u8; MOST];
+    let got = read(&mut rt.stdin(), &mut space, MOST);
     let mut page = [0u8; listing::ROOM];
     let end = listing::listing(&space[..got], &mut page);
-    write(&space[..got], &page[..end]);
+    write(&mut rt.stdout(), &space[..got], &page[..end]);
 }
 
 // Reads as much of a deck as can change its listing.
-fn read(space: &mut [u8], most: usize) -> usize
+fn read<R: Read>(input: &mut R, space: &mut [u8], most: usize) -> usize
     requires { (most ≡ read_of_aDeck) × (most ≤ length space.old) }
     ensures { IsPrefixLen result space.new }
 {
-    stdio::read(space, most)
+    stdio::read(input, space, most)
 }
 
 // Writes what is the listing of this deck.
-fn write(deck: &[u8], made: &[u8])
+fn write<W: Write>(output: &mut W, deck: &[u8], made: &[u8])
     requires { made.now ≡ listing_of deck.now }
 {
-    stdio::write(made);
+    stdio::write(output, made);
 }
