@@ -124,10 +124,8 @@ fn refusal(answer: Written) -> u32 {
 // How many bytes still have the value 97.
 fn kept(buffer: &[u8; SIZE]) -> u32 {
     let mut sum = 0u32;
-    let mut i = 0;
-    while i < SIZE {
-        sum = std::num::wrapping_add_u32(sum, same(wide(buffer[i])));
-        i += 1;
+    for byte in buffer {
+        sum = std::num::wrapping_add_u32(sum, same(wide(*byte)));
     }
     sum
 }
