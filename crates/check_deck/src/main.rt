@@ -3,32 +3,44 @@
 #![tactic(auto)]
 
 ghost use Rattle.std.specs.Prelude.{◌≡◌, ◌≤◌, length};
+<<<<<<< HEAD
 ghost use Rattle.io.specs.Counts.{IsPrefixLen};
 ghost use Rattle.contents.specs.Contents.{read_of_a_deck};
+=======
+ghost use Rattle.stdio.specs.Counts.{IsPrefixLen};
+ghost use Rattle.contents.specs.Contents.{read_of_a_deck};
+>>>>>>> 125aed54450fc20226a599056cf8bee7c00d5091
 ghost use Rattle.listing.specs.Listing.{listing_of};
+
+use std::io::{Read, Write};
 
 // One byte more than the largest deck has: what is longer has bytes left over, or is refused before.
 const MOST: usize = contents::LARGEST_DECK + 1;
 
-fn main() {
-    let mut space = io::large_buffer();
-    let got = read(&mut space, MOST);
+fn main(rt: HostRuntime) {
+    let mut space = [0u8; MOST];
+    let got = read(&mut rt.stdin(), &mut space, MOST);
     let mut page = [0u8; listing::ROOM];
     let end = listing::listing(&space[..got], &mut page);
-    write(&space[..got], &page[..end]);
+    write(&mut rt.stdout(), &space[..got], &page[..end]);
 }
 
 // Reads as much of a deck as can change its listing.
+<<<<<<< HEAD
 fn read(space: &mut [u8], most: usize) -> usize
     requires { (most ≡ read_of_a_deck) × (most ≤ length space.old) }
+=======
+fn read<R: Read>(input: &mut R, space: &mut [u8], most: usize) -> usize
+    requires { (most ≡ read_of_a_deck) × (most ≤ length space.old) }
+>>>>>>> 125aed54450fc20226a599056cf8bee7c00d5091
     ensures { IsPrefixLen result space.new }
 {
-    stdio::read(space, most)
+    stdio::read(input, space, most)
 }
 
 // Writes what is the listing of this deck.
-fn write(deck: &[u8], made: &[u8])
+fn write<W: Write>(output: &mut W, deck: &[u8], made: &[u8])
     requires { made.now ≡ listing_of deck.now }
 {
-    stdio::write(made);
+    stdio::write(output, made);
 }

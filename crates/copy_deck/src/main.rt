@@ -4,6 +4,6 @@
 
 use maker::Asked;
 
-fn main() {
-    maker::make(Asked::Copy);
+fn main(rt: HostRuntime) {
+    maker::make(&mut rt.stdin(), &mut rt.stdout(), Asked::Copy);
 }

@@ -6,13 +6,14 @@
 #![tactic(auto)]
 
 ghost use Rattle.std.specs.Prelude.{◌≡◌, ◌≤◌, length};
-ghost use Rattle.io.specs.Counts.{IsPrefixLen};
+ghost use Rattle.stdio.specs.Counts.{IsPrefixLen};
 ghost use Rattle.layout.specs.Written.{length_for, buffer_after, said};
 ghost use Rattle.reply.specs.Reply.{reply_of};
 ghost use Rattle.maker.specs.Made.{asked_deck, deck_made, read_of};
 
 use layout::Written;
 use ruling::Reason;
+use std::io::{Read, Write};
 
 // What a deck is made of.
 #[derive(Clone, Copy)]
@@ -21,15 +22,18 @@ pub enum Asked {
     Copy,
 }
 
-// Answers standard input on standard output.
-pub fn make(asked: Asked) {
-    let mut space = io::large_buffer();
-    let got = read(asked, &mut space, enough(asked));
+// Answers the input on the output.
+pub fn make<R: Read, W: Write>(input: &mut R, output: &mut W, asked: Asked) {
+    let mut space = [0u8; SPACE];
+    let got = read(input, asked, &mut space, enough(asked));
     let mut page = [0u8; contents::LARGEST_DECK];
     let answer = made(asked, &space[..got], &mut page);
     let end = reply::reply(answer, &mut page);
-    write(asked, &space[..got], &page[..end]);
+    write(output, asked, &space[..got], &page[..end]);
 }
+
+// The most bytes that are read.
+const SPACE: usize = contents::LARGEST_DECK + 1;
 
 // The bytes of the version and the form that stand before problems.
 const ASKED: usize = 4 + 4;
@@ -46,11 +50,11 @@ fn enough(asked: Asked) -> usize
 }
 
 // Reads as much as can change the reply.
-fn read(asked: Asked, space: &mut [u8], most: usize) -> usize
+fn read<R: Read>(input: &mut R, asked: Asked, space: &mut [u8], most: usize) -> usize
     requires { (most ≡ read_of asked) × (most ≤ length space.old) }
     ensures { IsPrefixLen result space.new }
 {
-    stdio::read(space, most)
+    stdio::read(input, space, most)
 }
 
 // Makes the deck at the front of the page.
@@ -78,8 +82,8 @@ fn problems_made(given: &[u8], page: &mut [u8]) -> Written
 }
 
 // Writes what is the reply to these bytes.
-fn write(asked: Asked, given: &[u8], reply: &[u8])
+fn write<W: Write>(output: &mut W, asked: Asked, given: &[u8], reply: &[u8])
     requires { reply.now ≡ reply_of (deck_made asked given.now) }
 {
-    stdio::write(reply);
+    stdio::write(output, reply);
 }

@@ -4,6 +4,6 @@
 
 use line::Question;
 
-fn main() {
-    records::list(Question::Series);
+fn main(rt: HostRuntime) {
+    records::list(&mut rt.stdin(), &mut rt.stdout(), Question::Series);
 }

@@ -12,61 +12,64 @@ ghost use Rattle.std.specs.Prelude.{◌≤◌};
 
 use apart::Apart;
 use layout::Written;
+use std::io::{Read, Write};
 
 // The bytes of which a part is lent.
 const SIZE: usize = 162;
 
-fn main() {
-    try_plain();
-    try_tagged();
+fn main(rt: HostRuntime) {
+    let mut input = rt.stdin();
+    let mut output = rt.stdout();
+    try_plain(&mut input, &mut output);
+    try_tagged(&mut input, &mut output);
 }
 
 // A problem without object and epoch: version 1.
-fn try_plain() {
+fn try_plain<R: Read, W: Write>(input: &mut R, output: &mut W) {
     let mut space = [0u8; card::PROBLEM];
-    let got = stdio::read(&mut space, card::PROBLEM);
-    write_in(1, 0, &space[..got], 7);
-    write_in(1, 0, &space[..got], 147);
-    write_in(1, 0, &space[..got], 148);
-    write_in(1, 0, &space[..got], 150);
-    write_in(2, 0, &space[..got], 162);
+    let got = stdio::read(input, &mut space, card::PROBLEM);
+    write_in(output, 1, 0, &space[..got], 7);
+    write_in(output, 1, 0, &space[..got], 147);
+    write_in(output, 1, 0, &space[..got], 148);
+    write_in(output, 1, 0, &space[..got], 150);
+    write_in(output, 2, 0, &space[..got], 162);
     let mut deck = [0u8; 148];
     problems::write(1, 0, &space[..got], &mut deck);
-    take_in(&deck, 0, 124);
-    take_in(&deck, 1, 123);
-    take_in(&deck, 1, 124);
-    finish_all(&deck);
-    copy_in(&deck, 147);
-    copy_in(&deck, 148);
+    take_in(output, &deck, 0, 124);
+    take_in(output, &deck, 1, 123);
+    take_in(output, &deck, 1, 124);
+    finish_all(output, &deck);
+    copy_in(output, &deck, 147);
+    copy_in(output, &deck, 148);
 }
 
 // A problem with both: version 2.
-fn try_tagged() {
+fn try_tagged<R: Read, W: Write>(input: &mut R, output: &mut W) {
     let mut space = [0u8; card::GIVEN];
-    let got = stdio::read(&mut space, card::GIVEN);
-    write_in(2, 1, &space[..got], 159);
-    write_in(2, 1, &space[..got], 160);
-    write_in(1, 1, &space[..got], 162);
-    write_in(3, 1, &space[..got], 162);
+    let got = stdio::read(input, &mut space, card::GIVEN);
+    write_in(output, 2, 1, &space[..got], 159);
+    write_in(output, 2, 1, &space[..got], 160);
+    write_in(output, 1, 1, &space[..got], 162);
+    write_in(output, 3, 1, &space[..got], 162);
     let mut deck = [0u8; 160];
     problems::write(2, 1, &space[..got], &mut deck);
-    take_in(&deck, 1, 135);
-    take_in(&deck, 1, 136);
-    copy_in(&deck, 159);
-    copy_in(&deck, 160);
+    take_in(output, &deck, 1, 135);
+    take_in(output, &deck, 1, 136);
+    copy_in(output, &deck, 159);
+    copy_in(output, &deck, 160);
 }
 
 // Writes the problem's deck.
-fn write_in(number: u32, form: u32, problem: &[u8], room: usize)
+fn write_in<W: Write>(output: &mut W, number: u32, form: u32, problem: &[u8], room: usize)
     requires { room ≤ 162 }
 {
     let mut buffer = [97u8; SIZE];
     let answer = problems::write(number, form, problem, &mut buffer[..room]);
-    tell(b"write", refusal(answer), kept(&buffer));
+    tell(output, b"write", refusal(answer), kept(&buffer));
 }
 
 // Takes the deck apart, with so many places for kinds, and room for fields.
-fn take_in(deck: &[u8], places: usize, room: usize)
+fn take_in<W: Write>(output: &mut W, deck: &[u8], places: usize, room: usize)
     requires { (places ≤ 2) × (room ≤ 162) }
 {
     let mut kinds = [97u32; 2];
@@ -76,39 +79,39 @@ fn take_in(deck: &[u8], places: usize, room: usize)
         Apart::Refused(why) => why.number(),
     };
     let left = std::num::wrapping_add_u32(same(kinds[0]), same(kinds[1]));
-    tell(b"take kinds", number, left);
-    tell(b"take fields", number, kept(&fields));
+    tell(output, b"take kinds", number, left);
+    tell(output, b"take fields", number, kept(&fields));
 }
 
 // Writes the fields of the deck's card as one of another kind, into too little room, and as too many.
-fn finish_all(deck: &[u8]) {
+fn finish_all<W: Write>(output: &mut W, deck: &[u8]) {
     let mut fields = [0u8; 124];
     apart::take(deck, &mut [0u32; 1], &mut fields);
-    finish_in(1, &[0u32; 1], &fields, 150);
-    finish_in(1, &[1u32; 1], &fields, 150);
-    finish_in(1, &[2u32; 1], &fields, 150);
-    finish_in(1, &[3u32; 1], &[0u8; 104], 150);
-    finish_in(1, &[1u32; 1], &fields, 147);
-    finish_in(1, &[1u32; 257], &fields, 150);
-    finish_in(2, &[1u32; 257], &fields, 150);
+    finish_in(output, 1, &[0u32; 1], &fields, 150);
+    finish_in(output, 1, &[1u32; 1], &fields, 150);
+    finish_in(output, 1, &[2u32; 1], &fields, 150);
+    finish_in(output, 1, &[3u32; 1], &[0u8; 104], 150);
+    finish_in(output, 1, &[1u32; 1], &fields, 147);
+    finish_in(output, 1, &[1u32; 257], &fields, 150);
+    finish_in(output, 2, &[1u32; 257], &fields, 150);
 }
 
 // Writes finished cards without object and epoch.
-fn finish_in(number: u32, kinds: &[u32], fields: &[u8], room: usize)
+fn finish_in<W: Write>(output: &mut W, number: u32, kinds: &[u32], fields: &[u8], room: usize)
     requires { room ≤ 162 }
 {
     let mut buffer = [97u8; SIZE];
     let answer = writer::write(number, 0, kinds, fields, &mut buffer[..room]);
-    tell(b"finish", refusal(answer), kept(&buffer));
+    tell(output, b"finish", refusal(answer), kept(&buffer));
 }
 
 // Copies the deck.
-fn copy_in(deck: &[u8], room: usize)
+fn copy_in<W: Write>(output: &mut W, deck: &[u8], room: usize)
     requires { room ≤ 162 }
 {
     let mut buffer = [97u8; SIZE];
     let answer = copier::copy(deck, &mut buffer[..room]);
-    tell(b"copy", refusal(answer), kept(&buffer));
+    tell(output, b"copy", refusal(answer), kept(&buffer));
 }
 
 fn refusal(answer: Written) -> u32 {
@@ -121,10 +124,8 @@ fn refusal(answer: Written) -> u32 {
 // How many bytes still have the value 97.
 fn kept(buffer: &[u8; SIZE]) -> u32 {
     let mut sum = 0u32;
-    let mut i = 0;
-    while i < SIZE {
-        sum = std::num::wrapping_add_u32(sum, same(wide(buffer[i])));
-        i += 1;
+    for byte in buffer {
+        sum = std::num::wrapping_add_u32(sum, same(wide(*byte)));
     }
     sum
 }
@@ -138,7 +139,7 @@ fn same(value: u32) -> u32 {
 }
 
 // A line: the word, the refusal, what was kept.
-fn tell(word: &[u8], number: u32, left: u32) {
+fn tell<W: Write>(output: &mut W, word: &[u8], number: u32, left: u32) {
     let mut page = [0u8; 64];
     let mut end = pieces::put(&mut page, 0, word);
     end = pieces::put(&mut page, end, b" deck");
@@ -146,5 +147,5 @@ fn tell(word: &[u8], number: u32, left: u32) {
     end = pieces::put(&mut page, end, b" kept");
     end = text::count(&mut page, end, left);
     end = pieces::put(&mut page, end, b"\n");
-    stdio::write(&page[..end]);
+    stdio::write(output, &page[..end]);
 }

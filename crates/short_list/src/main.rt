@@ -6,18 +6,23 @@
 ghost use Rattle.std.specs.Prelude.{◌≤◌};
 
 use deck::Answer;
+use std::io::Write;
 
-fn main() {
-    let mut space = io::large_buffer();
-    let got = stdio::read(&mut space, contents::LARGEST_DECK + 1);
-    check_in(&space[..got], 0);
-    check_in(&space[..got], 1);
-    check_in(&space[..got], 2);
-    check_in(&space[..got], 3);
-    check_in(&space[..got], 4);
+// One byte more than the largest deck has.
+const MOST: usize = contents::LARGEST_DECK + 1;
+
+fn main(rt: HostRuntime) {
+    let mut space = [0u8; MOST];
+    let got = stdio::read(&mut rt.stdin(), &mut space, MOST);
+    let mut output = rt.stdout();
+    check_in(&mut output, &space[..got], 0);
+    check_in(&mut output, &space[..got], 1);
+    check_in(&mut output, &space[..got], 2);
+    check_in(&mut output, &space[..got], 3);
+    check_in(&mut output, &space[..got], 4);
 }
 
-fn check_in(deck: &[u8], room: usize)
+fn check_in<W: Write>(output: &mut W, deck: &[u8], room: usize)
     requires { room ≤ 5 }
 {
     let mut list = [97u32; 5];
@@ -34,7 +39,7 @@ fn check_in(deck: &[u8], room: usize)
     end = text::count(&mut page, end, list[3]);
     end = text::count(&mut page, end, list[4]);
     end = pieces::put(&mut page, end, b"\n");
-    stdio::write(&page[..end]);
+    stdio::write(output, &page[..end]);
 }
 
 // The number of the refusal; 0 where the deck is accepted.

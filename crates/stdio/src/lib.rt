@@ -1,27 +1,41 @@
 // Standard input and output: bytes in, bytes out.
 //
-// Both functions are proved safe and to end. What is read and written is `io`'s, and no part of a
-// contract.
+// Each function is proved safe and to end, at any reader and writer. What is read and written is
+// theirs, and no part of a contract.
 #![tactic(auto)]
 
 ghost use Rattle.std.specs.Prelude.{◌≤◌};
-ghost use Rattle.io.specs.Counts.{IsPrefixLen};
+ghost use Rattle.stdio.specs.Counts.{IsPrefixLen};
 
-use libc::{STDIN_FILENO, STDOUT_FILENO};
+use std::io::{Read, Write};
 
 // Reads into space, up to `most` bytes or as many as it holds, until they are there or the input
-// ends. Answers how many came.
-pub fn read(space: &mut [u8], most: usize) -> usize
+// ends. Answers how many came. A read that fails ends the input.
+pub fn read<R: Read>(input: &mut R, space: &mut [u8], most: usize) -> usize
     ensures prefix_len { IsPrefixLen result space.new }
     ensures upper_bound { result ≤ most }
 {
     if space.len() < most {
-        return io::read_full(STDIN_FILENO, space);
+        return read_full(input, space);
     }
-    io::read_full(STDIN_FILENO, &mut space[..most])
+    read_full(input, &mut space[..most])
+}
+
+// Reads until the space is full or the input ends.
+fn read_full<R: Read>(input: &mut R, space: &mut [u8]) -> usize
+    ensures { IsPrefixLen result space.new }
+{
+    let mut done = 0;
+    while done < space.len() {
+        match input.read(&mut space[done..]) {
+            Ok(0) | Err(_) => break,
+            Ok(got) => done += got,
+        }
+    }
+    done
 }
 
 // Writes the bytes as they are, all of them in one block. Answers whether they were taken.
-pub fn write(bytes: &[u8]) -> bool {
-    io::write_all(STDOUT_FILENO, bytes)
+pub fn write<W: Write>(output: &mut W, bytes: &[u8]) -> bool {
+    output.write_all(bytes).is_ok()
 }

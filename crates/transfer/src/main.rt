@@ -4,6 +4,6 @@
 
 use line::Question;
 
-fn main() {
-    records::list(Question::Transfer);
+fn main(rt: HostRuntime) {
+    records::list(&mut rt.stdin(), &mut rt.stdout(), Question::Transfer);
 }

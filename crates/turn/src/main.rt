@@ -4,6 +4,6 @@
 
 use line::Question;
 
-fn main() {
-    records::list(Question::Theta);
+fn main(rt: HostRuntime) {
+    records::list(&mut rt.stdin(), &mut rt.stdout(), Question::Theta);
 }

@@ -5,6 +5,6 @@
 
 use maker::Asked;
 
-fn main() {
-    maker::make(Asked::Problems);
+fn main(rt: HostRuntime) {
+    maker::make(&mut rt.stdin(), &mut rt.stdout(), Asked::Problems);
 }
