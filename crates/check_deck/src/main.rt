@@ -3,13 +3,8 @@
 #![tactic(auto)]
 
 ghost use Rattle.std.specs.Prelude.{◌≡◌, ◌≤◌, length};
-<<<<<<< HEAD
-ghost use Rattle.io.specs.Counts.{IsPrefixLen};
-ghost use Rattle.contents.specs.Contents.{read_of_a_deck};
-=======
 ghost use Rattle.stdio.specs.Counts.{IsPrefixLen};
 ghost use Rattle.contents.specs.Contents.{read_of_a_deck};
->>>>>>> 125aed54450fc20226a599056cf8bee7c00d5091
 ghost use Rattle.listing.specs.Listing.{listing_of};
 
 use std::io::{Read, Write};
@@ -26,13 +21,8 @@ fn main(rt: HostRuntime) {
 }
 
 // Reads as much of a deck as can change its listing.
-<<<<<<< HEAD
-fn read(space: &mut [u8], most: usize) -> usize
-    requires { (most ≡ read_of_a_deck) × (most ≤ length space.old) }
-=======
 fn read<R: Read>(input: &mut R, space: &mut [u8], most: usize) -> usize
     requires { (most ≡ read_of_a_deck) × (most ≤ length space.old) }
->>>>>>> 125aed54450fc20226a599056cf8bee7c00d5091
     ensures { IsPrefixLen result space.new }
 {
     stdio::read(input, space, most)

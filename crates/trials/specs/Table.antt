@@ -102,8 +102,8 @@ abbrev deck_a : Deck
 deck_a = deck_with version.One []
 
 -- the same cards in version 2, with the largest object and the lowest epoch on each
-abbrev deck_aTagged : Deck
-deck_aTagged = deck_with version.Two (255 ∷ 255 ∷ 255 ∷ 255 ∷ 0 ∷ 0 ∷ 0 ∷ 0 ∷ 0 ∷ 0 ∷ 0 ∷ 128 ∷ [])
+abbrev deck_a_tagged : Deck
+deck_a_tagged = deck_with version.Two (255 ∷ 255 ∷ 255 ∷ 255 ∷ 0 ∷ 0 ∷ 0 ∷ 0 ∷ 0 ∷ 0 ∷ 0 ∷ 128 ∷ [])
 
 -- its version and count, and its three entries, byte by byte
 abbrev front_of_a : List ℕ
@@ -115,8 +115,8 @@ front_of_a =
     ∷ []
 
 -- and in version 2
-abbrev front_of_aTagged : List ℕ
-front_of_aTagged =
+abbrev front_of_a_tagged : List ℕ
+front_of_a_tagged =
     2 ∷ 0 ∷ 0 ∷ 0 ∷ 3 ∷ 0 ∷ 0 ∷ 0
     ∷ 1 ∷ 0 ∷ 0 ∷ 0 ∷ 44 ∷ 0 ∷ 0 ∷ 0 ∷ 140 ∷ 0 ∷ 0 ∷ 0
     ∷ 2 ∷ 0 ∷ 0 ∷ 0 ∷ 184 ∷ 0 ∷ 0 ∷ 0 ∷ 92 ∷ 0 ∷ 0 ∷ 0
@@ -150,6 +150,6 @@ table =
     ∷ laid_out deck_a front_of_a
     ∷ listing_gives (deck_of deck_a) (text "card 1 solved - - 0\ncard 2 refused - - 0\ncard 3 solved - - 22\nsolved 1 refused 1 rejected 1\nmean 0000000000000000\nworst 0000000000000000\n")
     -- and in version 2
-    ∷ laid_out deck_aTagged front_of_aTagged
-    ∷ listing_gives (deck_of deck_aTagged) (text "card 1 solved 4294967295 -9223372036854775808 0\ncard 2 refused 4294967295 -9223372036854775808 0\ncard 3 solved 4294967295 -9223372036854775808 22\nsolved 1 refused 1 rejected 1\nmean 0000000000000000\nworst 0000000000000000\n")
+    ∷ laid_out deck_a_tagged front_of_a_tagged
+    ∷ listing_gives (deck_of deck_a_tagged) (text "card 1 solved 4294967295 -9223372036854775808 0\ncard 2 refused 4294967295 -9223372036854775808 0\ncard 3 solved 4294967295 -9223372036854775808 22\nsolved 1 refused 1 rejected 1\nmean 0000000000000000\nworst 0000000000000000\n")
     ∷ []

@@ -1,13 +1,9 @@
 -- What lasts over the turns of `words::bytes`, and why they end.
 use mathlib.Core.Path.{◌≡◌}
 use mathlib.Core.List.{List}
-use Prim.Native.Nat.{ℕ, zero, ◌+◌, ◌-◌, ◌*◌, ◌^◌, ◌≤◌, ◌<◌}
-use native.Mathlib.Nat.{pow-le-pow_right, pow-succ'}
-use native.Mathlib.Numerals.{add-one}
-use native.Mathlib.Omega.{arith}
-use lib.ListN.{length, drop, get_or}
+use Prim.Native.Nat.{ℕ, ◌+◌, ◌-◌, ◌^◌, ◌≤◌, ◌<◌}
+use lib.ListN.{drop}
 use Rattle.words.specs.Words.{value}
-use Rattle.words.proofs.Value.{value_drop}
 use Rattle.words.proofs.bytes.Given as goal
 
 pub record Summed (s : List ℕ) (at k left sum : ℕ) : Type 0 where
