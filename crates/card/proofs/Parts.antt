@@ -1,6 +1,6 @@
 -- What a verdict reads of a card, from its body: the same in either version, whatever object and epoch are; and of the cards that are made, the
 -- problem with its spare, or the transfer, and the answer.
-use mathlib.Core.Path.{◌≡◌, refl, sym, ap, ap₂, ◌∙◌}
+use mathlib.Core.Path.{◌≡◌, sym, ap, ap₂, ◌∙◌}
 use mathlib.Core.List.{List, ◌++◌, append_assoc}
 use Prim.Native.Nat.{ℕ, ◌+◌, ◌≤◌}
 use native.Mathlib.Omega.{arith}
@@ -11,10 +11,10 @@ use Rattle.words.specs.Words.{value_at}
 use Rattle.words.proofs.Standing.{value_at_part}
 use Rattle.version.specs.declared.Version.{Version}
 use Rattle.version.specs.declared.Version.TheVariants as version
-use Rattle.version.specs.Version.{tag_size, largest_tag}
+use Rattle.version.specs.Version.{tag_size}
 use Rattle.card.specs.declared.Kind.{Kind}
 use Rattle.card.specs.declared.Kind.TheVariants as kind
-use Rattle.card.specs.Fields.{problem_size, question_size, answer_size, size_of, answer_at, tag_at, Parts, parts, parts_of}
+use Rattle.card.specs.Fields.{problem_size, question_size, answer_size, size_of, answer_at, tag_at, parts, parts_of}
 use Rattle.card.specs.Made.{spare, body_of}
 use Rattle.card.proofs.Sizes.{answer_inside}
 

@@ -1,6 +1,6 @@
 -- A card's body from its fields, and the card that a problem and Kepler's answer make: RULES, The deck and Writing a deck. A problem is given as
 -- the 68 bytes that stand before the spare, and object and epoch as theirs. Definitions only.
-use Rattle.std.specs.Prelude.{ℕ, ◌+◌, List, [], ◌∷◌, ◌++◌, map, take, drop, Float}
+use Rattle.std.specs.Prelude.{ℕ, List, [], ◌∷◌, ◌++◌, map, take, drop, Float}
 use Rattle.exact.specs.Numbers.{word_of}
 use Rattle.spelled.specs.Spelled.{bytes_of}
 use Rattle.words.specs.Words.{words_bytes}

@@ -58,9 +58,9 @@ at_x_is : (card : Parts) (o : Scaled) (start : Bracket) (state : State) → spar
 at_x_is card o start state s e p =
     let x = x_of card.answer in
     let a = (arrives o x state).0 p.finding in
-    let at_x : Arrives o x (state_at o x) × (state_words card.answer ≡ words_of (state_at o x)) =
+    let arrives : Arrives o x (state_at o x) × (state_words card.answer ≡ words_of (state_at o x)) =
     subst (λ (s : State). Arrives o x s × (state_words card.answer ≡ words_of s)) (sym a.state_is) (a, (same_state_lem card.answer state).0 p.same_found) in
-    record { spare_is = s; entry = e; x_in = p.x_in; time_finite = p.time_finite; near = p.near; arrival = at_x.0; state_bits = at_x.1 }
+    record { spare_is = s; entry = e; x_in = p.x_in; time_finite = p.time_finite; near = p.near; arrival = arrives.0; state_bits = arrives.1 }
 
 pub solved_is : (card : Parts) (r : Float) → solved_card card ≡ pass r → (o : Scaled) × (start : Bracket) × Passes card o start × (r ≡ residual_of card.answer o)
 unfolding solved_card at_x

@@ -37,10 +37,10 @@ module _ (card : Parts) where
       let works = (bracket_works (problem_of card.question) o start (entered (problem_of card.question) o start h) x ((of_bits-fits binary64 (value_at 8 card.answer 0), finite), w)).1 in
       (worked_time_lem o x works, worked_arrival_lem o x works)
 
-  at_x : (e : Scaled × Bracket) → entry_of (problem_of card.question) ≡ pass e → at_x card.answer e.0 e.1 ≡ worked_at_x e
+  at_x_alike : (e : Scaled × Bracket) → entry_of (problem_of card.question) ≡ pass e → at_x card.answer e.0 e.1 ≡ worked_at_x e
   unfolding at_x
-  at_x (o, start) h = answered_same (time_at o) o.t (arrival_at o) (same_state card.answer) start x (worked_time o) (worked_arrival o) o.f4 (alike o start h)
+  at_x_alike (o, start) h = answered_same (time_at o) o.t (arrival_at o) (same_state card.answer) start x (worked_time o) (worked_arrival o) o.f4 (alike o start h)
 
   pub worked_card : solved_card card ≡ must (eqb (spare_of card.question) 0) 23 (onward (entry_by worked_time (problem_of card.question)) worked_at_x)
   unfolding solved_card
-  worked_card = ap (must (eqb (spare_of card.question) 0) 23) (onward_same (entry_of (problem_of card.question)) (λ e. at_x card.answer e.0 e.1) worked_at_x at_x ∙ ap (λ (c : Checked (Scaled × Bracket)). onward c worked_at_x) (worked_entry (problem_of card.question)))
+  worked_card = ap (must (eqb (spare_of card.question) 0) 23) (onward_same (entry_of (problem_of card.question)) (λ e. at_x card.answer e.0 e.1) worked_at_x at_x_alike ∙ ap (λ (c : Checked (Scaled × Bracket)). onward c worked_at_x) (worked_entry (problem_of card.question)))

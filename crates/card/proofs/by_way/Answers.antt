@@ -1,6 +1,5 @@
 -- `card::by_way` meets its contract: the fields of the problem that was read, and the way.
 use mathlib.Core.Path.{refl}
-use borrow.Author.Rules.{rules}
 use Rattle.card.proofs.by_way.Goals as goal
 
 pub returns : goal.returns

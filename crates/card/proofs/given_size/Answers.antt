@@ -1,8 +1,7 @@
 -- `card::given_size` meets its contract: a sum that is not large.
-use mathlib.Core.Path.{◌≡◌, ap}
+use mathlib.Core.Path.{ap}
 use Prim.Native.Nat.{ℕ, ◌+◌, ◌≤◌}
 use native.Mathlib.Omega.{arith}
-use borrow.Author.Rules.{rules}
 use Rattle.version.specs.Version.{largest_tag}
 use Rattle.version.proofs.Sizes.{tag_most}
 use Rattle.card.specs.Fields.{problem_size}

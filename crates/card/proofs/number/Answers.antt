@@ -1,6 +1,5 @@
 -- `card::number` meets its contract: the number of the word.
 use mathlib.Core.Path.{refl, ◌∙◌}
-use borrow.Author.Rules.{rules}
 use Rattle.card.proofs.number.Goals as goal
 
 pub returns : goal.returns

@@ -1,7 +1,6 @@
 -- `card::own` meets its contract: each kind is one case of the definition.
 use mathlib.Core.Path.{refl}
 use Rattle.card.specs.Fields.{answer_size, own_size}
-use borrow.Author.Rules.{rules}
 use Rattle.card.proofs.own.Goals as goal
 
 pub returns-in-Solved : goal.returns-in-Solved

@@ -1,7 +1,6 @@
 -- `card::problem` meets its contract: each field is read as the definition says.
 use mathlib.Core.Path.{refl}
 use Rattle.card.specs.Fields.{problem_of}
-use borrow.Author.Rules.{rules}
 use Rattle.card.proofs.problem.Goals as goal
 
 pub returns : goal.returns

@@ -1,7 +1,6 @@
 -- `card::tag` meets its contract: absent in version 1, and in version 2 the two words that stand there.
 use mathlib.Core.Path.{refl, ◌∙◌}
 use native.Mathlib.Omega.{arith}
-use borrow.Author.Rules.{rules}
 use Rattle.card.specs.Fields.{tag_of}
 use Rattle.card.proofs.Sizes.{answer_most, tag_inside}
 use Rattle.card.proofs.tag.Goals as goal

@@ -1,7 +1,6 @@
 -- `card::tag_at` meets its contract: each kind is one case of the definition.
 use mathlib.Core.Path.{refl}
 use Rattle.card.specs.Fields.{answer_size, tag_at}
-use borrow.Author.Rules.{rules}
 use Rattle.card.proofs.tag_at.Goals as goal
 
 pub returns-in-Solved : goal.returns-in-Solved

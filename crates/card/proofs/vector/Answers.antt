@@ -1,6 +1,5 @@
 -- `card::vector` meets its contract: what `number` ensures, three times.
 use mathlib.Core.Path.{refl}
-use borrow.Author.Rules.{rules}
 use Rattle.card.proofs.vector.Goals as goal
 
 pub returns : goal.returns

@@ -1,6 +1,5 @@
 -- `tag::present` meets its contract: the epoch is what the word stands for, which fits an i64.
 use mathlib.Core.Path.{ap, ◌∙◌}
-use borrow.Author.Rules.{rules}
 use lib.IntN.{ℤ}
 use mir.Syntax.{w64}
 use mir.Val.{to_z, of_z}

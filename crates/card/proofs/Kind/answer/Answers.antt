@@ -1,7 +1,6 @@
 -- `card::Kind::answer` meets its contract: each kind is one case of the definition.
 use mathlib.Core.Path.{refl}
 use Rattle.card.specs.Fields.{answer_size}
-use borrow.Author.Rules.{rules}
 use Rattle.card.proofs.Kind.answer.Goals as goal
 
 pub returns-in-Solved : goal.returns-in-Solved

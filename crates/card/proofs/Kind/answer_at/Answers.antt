@@ -1,8 +1,7 @@
 -- `card::Kind::answer_at` meets its contract: each kind is one case of the definition.
-use mathlib.Core.Path.{◌≡◌, refl, ap, ◌∙◌}
+use mathlib.Core.Path.{refl, ap, ◌∙◌}
 use Prim.Native.Nat.{ℕ, ◌+◌, ◌≤◌}
 use native.Mathlib.Omega.{arith}
-use borrow.Author.Rules.{rules}
 use Rattle.version.specs.Version.{largest_tag}
 use Rattle.version.proofs.Sizes.{tag_most}
 use Rattle.card.specs.Fields.{question_size, answer_at}

@@ -1,8 +1,7 @@
 -- `card::Kind::size` meets its contract: a sum of sizes, none of which is large.
-use mathlib.Core.Path.{◌≡◌, ap₂}
+use mathlib.Core.Path.{ap₂}
 use Prim.Native.Nat.{ℕ, ◌+◌, ◌≤◌}
 use native.Mathlib.Omega.{arith}
-use borrow.Author.Rules.{rules}
 use Rattle.version.specs.Version.{largest_tag}
 use Rattle.version.proofs.Sizes.{tag_most}
 use Rattle.card.specs.Fields.{question_size, largest_answer}
