@@ -51,6 +51,7 @@ from_nothing : Summed nothing
 from_nothing = record { plus = (nought_number, nought_plus); most = rw nought_steps (omega arith) }
 
 among_first : (r : Float) (before after : List Said) → Among r before → Among r (before ++ after)
+among_first r [] after m = elim m [ ]
 among_first r (solved x ∷ before) after (inl e) = inl e
 among_first r (solved x ∷ before) after (inr m) = inr (among_first r before after m)
 among_first r (refused ∷ before) after m = among_first r before after m

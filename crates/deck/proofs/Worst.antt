@@ -101,6 +101,7 @@ worst_is_largest verdicts all some m =
 
 -- the residuals of cards have no minus and are at most 2^988 s
 pub card_residuals_most : (version : Version) (cards : List Card) (r : Float) → Among r (verdicts_of version cards) → AtMost most_residual r
+card_residuals_most version [] r m = elim m [ ]
 card_residuals_most version (c ∷ cards) r m = go (verdict_of version c) refl (card_residuals_most version cards r) m
   where
     go : (v : Said) → verdict_of version c ≡ v → (Among r (verdicts_of version cards) → AtMost most_residual r) → Among r (v ∷ verdicts_of version cards) → AtMost most_residual r

@@ -1,0 +1,14 @@
+-- `tally::closed` meets its contract: the residuals are absent, or known where a card was solved.
+use mathlib.Core.Path.{refl}
+use borrow.Author.Tests.{eq-eqb, ne_eqb}
+use Rattle.deck.specs.Tally.{residuals_of}
+use borrow.Author.Rules.{rules}
+use Rattle.deck.proofs.tally.closed.Goals as goal
+
+pub returns-then-running-eq0 : goal.returns-then-running-eq0
+unfolding residuals_of
+returns-then-running-eq0 c = rw (eq-eqb c.args.running.solved 0 c.if-running-eq0.true) refl
+
+pub returns : goal.returns
+unfolding residuals_of
+returns c = rw (c.mean.ensures, ne_eqb c.args.running.solved 0 c.if-running-eq0.false) refl
