@@ -1,13 +1,10 @@
 -- `apart::list_kinds` meets its contract: after each turn, the kinds of the cards that were met stand at the front of the list.
 use mathlib.Core.Path.{sym, ap, ◌∙◌}
-use Prim.Native.Nat.{◌-◌}
 use native.Mathlib.Omega.{arith}
-use borrow.Author.Rules.{rules}
 use Rattle.pieces.proofs.Puts.{as_long}
-use Rattle.version.specs.declared.Version.{Version}
 use Rattle.card.specs.Said.{named}
 use Rattle.contents.proofs.Meeting.{never_unknown}
-use Rattle.apart.proofs.Turns.{Listing, none_listed, place, list_on, all_listed}
+use Rattle.apart.proofs.Turns.{none_listed, place, list_on, all_listed}
 use Rattle.apart.proofs.list_kinds.Goals as goal
 
 pub loop-i-init : goal.loop-i-init

@@ -1,13 +1,7 @@
 -- What lasts over the turns of `apart::list_kinds`, and why they end.
-use mathlib.Core.Path.{sym, ap, ◌∙◌}
 use Prim.Native.Nat.{◌-◌}
-use native.Mathlib.Omega.{arith}
-use borrow.Author.Rules.{rules}
-use Rattle.pieces.proofs.Puts.{as_long}
 use Rattle.version.specs.declared.Version.{Version}
-use Rattle.card.specs.Said.{named}
-use Rattle.contents.proofs.Meeting.{never_unknown}
-use Rattle.apart.proofs.Turns.{Listing, none_listed, place, list_on, all_listed}
+use Rattle.apart.proofs.Turns.{Listing}
 use Rattle.apart.proofs.list_kinds.Given as goal
 
 abbrev pub invariant-loop-i : goal.invariant-loop-i

@@ -1,6 +1,5 @@
 -- `apart::measured` meets its contract: each return is one way that taking apart goes.
 use mathlib.Core.Path.{◌≡◌, sym, ap, ◌∙◌}
-use borrow.Author.Rules.{rules}
 use Rattle.rows.specs.Rows.{pass}
 use Rattle.rows.proofs.Laws.{row_refused}
 use Rattle.contents.specs.Contents.{count_of, deck_in, counted_in}

@@ -2,7 +2,6 @@
 use mathlib.Core.Path.{◌≡◌, sym, ap, ◌∙◌}
 use Prim.Native.Nat.{ℕ, ◌+◌, ◌-◌, ◌≤◌}
 use native.Mathlib.Omega.{arith}
-use borrow.Author.Rules.{rules}
 use lib.ListN.{length, take, drop}
 use Rattle.pieces.proofs.Puts.{renamed, as_long}
 use Rattle.rows.specs.Rows.{pass}
@@ -11,7 +10,7 @@ use Rattle.card.specs.Fields.{size_of}
 use Rattle.card.specs.Made.{fields_in}
 use Rattle.contents.specs.Contents.{kind_at}
 use Rattle.contents.proofs.Meeting.{never_unknown, inside, whole_body}
-use Rattle.apart.proofs.Turns.{Putting, none_put, put_on, all_put}
+use Rattle.apart.proofs.Turns.{none_put, put_on, all_put}
 use Rattle.apart.proofs.put_all.Goals as goal
 use Rattle.apart.proofs.put_all.Goals.{After-size}
 

@@ -1,7 +1,6 @@
 -- `apart::rest_from` meets its contract: each kind is one case of the definition.
 use mathlib.Core.Path.{refl}
 use Rattle.card.specs.Made.{rest_from}
-use borrow.Author.Rules.{rules}
 use Rattle.apart.proofs.rest_from.Goals as goal
 
 pub returns-in-Solved : goal.returns-in-Solved

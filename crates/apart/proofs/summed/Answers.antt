@@ -1,13 +1,11 @@
 -- `apart::summed` meets its contract: after each turn, the sum is that of the cards that were met. No card is without a kind, since the deck is
 -- accepted.
 use mathlib.Core.Path.{sym, ap, ◌∙◌}
-use Prim.Native.Nat.{◌-◌}
 use native.Mathlib.Omega.{arith}
-use borrow.Author.Rules.{rules}
 use Rattle.card.specs.Said.{named}
 use Rattle.card.proofs.Packed.{packed_most}
 use Rattle.contents.proofs.Meeting.{never_unknown}
-use Rattle.apart.proofs.Turns.{Summing, none_summed, sum_on, all_summed}
+use Rattle.apart.proofs.Turns.{none_summed, sum_on, all_summed}
 use Rattle.apart.proofs.summed.Goals as goal
 
 pub loop-i-init : goal.loop-i-init

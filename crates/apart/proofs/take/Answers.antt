@@ -1,7 +1,6 @@
 -- `apart::take` meets its contract: what is refused alters nothing, and what is taken stands at the front of its list.
 use mathlib.Core.Path.{◌≡◌, sym, ap, ◌∙◌}
 use native.Mathlib.Omega.{arith}
-use borrow.Author.Rules.{rules}
 use lib.ListN.{length}
 use Rattle.rows.specs.Rows.{pass}
 use Rattle.layout.proofs.Packed.{length_kinds}

@@ -2,7 +2,6 @@
 use mathlib.Core.Path.{refl}
 use Prim.Native.Nat.{◌≤◌}
 use native.Mathlib.Omega.{arith}
-use borrow.Author.Rules.{rules}
 use Rattle.card.specs.Fields.{velocity_from}
 use Rattle.compared.specs.declared.Place.{Place}
 use Rattle.compared.specs.declared.Place.TheVariants as place

@@ -1,8 +1,5 @@
 -- `compared::time` meets its contract: each return is one way through the definition's row of tests.
 use mathlib.Core.Path.{◌≡◌, refl, sym}
-use mathlib.Core.Bool.{◌&&◌}
-use borrow.Author.Rules.{rules}
-use borrow.Author.Tests.{not-true, not-false}
 use Rattle.exact.specs.Numbers.{is_finite, is_near}
 use Rattle.rows.specs.Rows.{pass, must}
 use Rattle.compared.specs.Compared.{in_seconds, timed_by}

@@ -1,8 +1,7 @@
 -- `contents::entries_tested` meets its contract: after each turn, what is left to be tested comes to what the whole comes to.
 use mathlib.Core.Path.{◌≡◌, sym, ap, subst, ◌∙◌}
-use Prim.Native.Nat.{ℕ, ◌+◌, ◌-◌, ◌≤◌}
+use Prim.Native.Nat.{ℕ, ◌+◌, ◌≤◌}
 use native.Mathlib.Omega.{arith}
-use borrow.Author.Rules.{rules}
 use lib.ListN.{length}
 use Rattle.rows.specs.Rows.{pass}
 use Rattle.ruling.specs.Said.{reason_number}

@@ -6,7 +6,6 @@ use lib.Dec.{eqb, leb}
 use lib.ListN.{length}
 use Rattle.rows.specs.Rows.{pass, must, onward}
 use Rattle.contents.specs.Contents.{offset_at, entry_in}
-use borrow.Author.Rules.{rules}
 use Rattle.contents.proofs.entry_at.Goals as goal
 use Rattle.contents.proofs.entry_at.Goals.{After-half, After-half-2, Else-half-at}
 

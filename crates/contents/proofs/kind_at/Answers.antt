@@ -1,6 +1,5 @@
 -- `contents::kind_at` meets its contract: the kind of the number that stands in the entry.
 use mathlib.Core.Path.{refl, ◌∙◌}
-use borrow.Author.Rules.{rules}
 use Rattle.contents.proofs.kind_at.Goals as goal
 
 pub returns : goal.returns

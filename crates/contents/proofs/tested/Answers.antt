@@ -3,11 +3,10 @@ use mathlib.Core.Path.{◌≡◌, refl, sym, ap, ◌∙◌}
 use borrow.Author.Tests.{le-leb, lt-leb}
 use lib.Dec.{leb}
 use lib.ListN.{length}
-use Rattle.rows.specs.Rows.{pass, must, onward}
+use Rattle.rows.specs.Rows.{must, onward}
 use Rattle.version.specs.Version.{version_of, stated}
 use Rattle.contents.specs.Contents.{header_size, entry_at, most_cards, version_word, cards_from, deck_in}
 use Rattle.contents.proofs.Opened.{with_version, counted_on}
-use borrow.Author.Rules.{rules}
 use Rattle.contents.proofs.tested.Goals as goal
 use Rattle.contents.proofs.tested.Goals.{After-half-count, After-named}
 

@@ -3,7 +3,6 @@
 use mathlib.Core.Path.{sym, ap, ap₂, ◌∙◌}
 use Prim.Native.Nat.{ℕ, ◌*◌}
 use native.Mathlib.Omega.{arith}
-use borrow.Author.Rules.{rules}
 use lib.ListN.{length, take, replicate}
 use Rattle.card.specs.Fields.{largest_fields}
 use Rattle.contents.specs.Contents.{most_cards}

@@ -5,7 +5,6 @@ use Rattle.contents.specs.Said.{listed}
 use Rattle.contents.specs.Contents.{entry_at, cards_from, Passes}
 use Rattle.contents.proofs.Opened.{Opened, opened}
 use Rattle.deck.proofs.Settled.{contents_refused, list_too_short, accepted}
-use borrow.Author.Rules.{rules}
 use Rattle.deck.proofs.check.Goals as goal
 use Rattle.deck.proofs.check.Goals.{In-Cards}
 

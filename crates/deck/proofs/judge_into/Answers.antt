@@ -1,9 +1,7 @@
 -- `deck::judge_into` meets its contract: the verdict, as `judge` ensures it, on the two parts of the body, and its number in the first place.
 use mathlib.Core.Path.{◌≡◌, sym, ap, ap₂, ◌∙◌}
-use mathlib.Core.List.{List}
 use Prim.Native.Nat.{ℕ, ◌+◌, ◌-◌, ◌≤◌}
 use native.Mathlib.Omega.{arith}
-use borrow.Author.Rules.{rules}
 use lib.ListN.{length, take, drop, set}
 use lib.Seq.{length-take-le}
 use Rattle.card.specs.Fields.{question_size, answer_at, parts, parts_of}

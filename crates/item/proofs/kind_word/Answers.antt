@@ -1,6 +1,5 @@
 -- `item::kind_word` meets its contract: each arm writes the word of its kind.
 use Rattle.pieces.proofs.Puts.{wrote}
-use borrow.Author.Rules.{rules}
 use Rattle.item.proofs.kind_word.Goals as goal
 
 pub returns-in-Solved : goal.returns-in-Solved

@@ -1,6 +1,5 @@
 -- `item::line` meets its contract: the six pieces of the line, one behind the other.
 use Rattle.pieces.proofs.Puts.{puts, last, wrote, both}
-use borrow.Author.Rules.{rules}
 use Rattle.item.proofs.line.Goals as goal
 
 pub returns : goal.returns

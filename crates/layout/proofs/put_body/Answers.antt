@@ -2,7 +2,6 @@
 use mathlib.Core.Path.{◌≡◌, sym, ap, ◌∙◌}
 use mathlib.Core.List.{List, ◌++◌, append_assoc}
 use Prim.Native.Nat.{ℕ}
-use borrow.Author.Rules.{rules}
 use lib.ListN.{take, drop, take-append-drop}
 use Rattle.pieces.proofs.Puts.{puts, renamed, wrote, both}
 use Rattle.card.specs.Fields.{problem_size}

@@ -1,7 +1,6 @@
 -- `layout::put_contents` meets its contract: nothing for too many kinds, and else version, count and entries, one behind the other.
 use mathlib.Core.Path.{sym, ap}
 use native.Mathlib.Omega.{arith}
-use borrow.Author.Rules.{rules}
 use Rattle.spelled.specs.Spelled.{bytes_of}
 use Rattle.pieces.proofs.Puts.{puts, none, renamed, wrote, both, inside}
 use Rattle.layout.proofs.Contents.{few_enough, too_many}

@@ -1,14 +1,12 @@
 -- `layout::put_entries` meets its contract: after each turn, the entries of the kinds that are left, written behind what stands, are those of all.
 use mathlib.Core.Path.{◌≡◌, sym, ap, ◌∙◌}
-use Prim.Native.Nat.{◌-◌}
 use native.Mathlib.Omega.{arith}
-use borrow.Author.Rules.{rules}
-use lib.ListN.{length, get_or}
+use lib.ListN.{get_or}
 use Rattle.rows.specs.Rows.{pass}
 use Rattle.card.specs.Said.{named}
 use Rattle.card.specs.Fields.{kind_of}
 use Rattle.card.proofs.Sizes.{size_most}
-use Rattle.layout.proofs.Entering.{Entering, begin, turn, no_kind, entered}
+use Rattle.layout.proofs.Entering.{begin, turn, no_kind, entered}
 use Rattle.layout.proofs.put_entries.Goals as goal
 use Rattle.layout.proofs.put_entries.Goals.{After-size-offset}
 

@@ -1,7 +1,6 @@
 -- `layout::put_entry` meets its contract: kind, offset and length, one behind the other.
 use mathlib.Core.Path.{ap}
 use native.Mathlib.Omega.{arith}
-use borrow.Author.Rules.{rules}
 use Rattle.pieces.proofs.Puts.{puts, renamed, wrote}
 use Rattle.spelled.specs.Spelled.{bytes_of}
 use Rattle.card.proofs.Sizes.{size_most}

@@ -2,7 +2,6 @@
 use mathlib.Core.Path.{ap, ap₂, ◌∙◌}
 use mathlib.Core.List.{◌++◌}
 use native.Mathlib.Omega.{arith}
-use borrow.Author.Rules.{rules}
 use Rattle.spelled.specs.Spelled.{bytes_of}
 use Rattle.words.specs.Words.{words_bytes}
 use Rattle.conic.specs.declared.Problem.{Problem}

@@ -1,6 +1,5 @@
 -- `predicted::put_answer` meets its contract: each case of the outcome is one of the definition.
 use mathlib.Core.Path.{ap}
-use borrow.Author.Rules.{rules}
 use Rattle.pieces.proofs.Puts.{renamed, wrote}
 use Rattle.spelled.specs.Spelled.{bytes_of}
 use Rattle.predicted.proofs.put_answer.Goals as goal

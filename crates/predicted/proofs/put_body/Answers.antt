@@ -1,9 +1,8 @@
 -- `predicted::put_body` meets its contract: a card's fields stand at the front of their array, which has room for them, and its body is made of them.
-use mathlib.Core.Path.{◌≡◌, sym, ap, ◌∙◌}
+use mathlib.Core.Path.{sym, ap, ◌∙◌}
 use mathlib.Core.List.{◌++◌}
 use Prim.Native.Nat.{ℕ, ◌≤◌}
 use native.Mathlib.Omega.{arith}
-use borrow.Author.Rules.{rules}
 use lib.ListN.{length, length-append, length-replicate}
 use lib.Seq.{length-take-le}
 use Rattle.pieces.proofs.Puts.{renamed, wrote, inside, front}

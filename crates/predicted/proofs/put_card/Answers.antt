@@ -1,5 +1,4 @@
 -- `predicted::put_card` meets its contract: the words of the numbers, the limit, object and epoch, and the answer, one behind the other.
-use borrow.Author.Rules.{rules}
 use Rattle.pieces.proofs.Puts.{puts, wrote, inside}
 use Rattle.predicted.proofs.put_card.Goals as goal
 

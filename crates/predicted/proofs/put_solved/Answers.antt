@@ -1,5 +1,4 @@
 -- `predicted::put_solved` meets its contract: the words are those of the answer's numbers.
-use borrow.Author.Rules.{rules}
 use Rattle.predicted.proofs.put_solved.Goals as goal
 
 pub returns : goal.returns

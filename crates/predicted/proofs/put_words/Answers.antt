@@ -1,14 +1,13 @@
 -- `predicted::put_words` meets its contract. The invariant: the words that are left, written behind what stands, are all words.
 use mathlib.Core.Path.{◌≡◌, sym, ap, ◌∙◌}
 use mathlib.Core.List.{List, [], ◌++◌}
-use Prim.Native.Nat.{ℕ, ◌+◌, ◌-◌, ◌≤◌, ◌<◌}
+use Prim.Native.Nat.{ℕ, ◌+◌, ◌≤◌, ◌<◌}
 use native.Mathlib.Numerals.{add-one}
 use native.Mathlib.Omega.{arith}
-use borrow.Author.Rules.{rules}
 use lib.ListN.{length, drop, get_or, drop_of_length-le}
 use lib.Seq.{drop-cons}
 use Rattle.pieces.proofs.Puts.{wrote}
-use Rattle.pieces.proofs.InPieces.{InPieces, nothing_yet, one_on, all_there}
+use Rattle.pieces.proofs.InPieces.{nothing_yet, one_on, all_there}
 use Rattle.spelled.specs.Spelled.{bytes_of}
 use Rattle.words.specs.Words.{words_bytes}
 use Rattle.predicted.proofs.put_words.Goals as goal

@@ -1,6 +1,5 @@
 -- `predicted::words_of` meets its contract: what `word` ensures, eight times.
 use mathlib.Core.Path.{refl}
-use borrow.Author.Rules.{rules}
 use Rattle.predicted.proofs.words_of.Goals as goal
 
 pub returns : goal.returns

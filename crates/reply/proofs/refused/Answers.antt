@@ -1,6 +1,5 @@
 -- `reply::refused` meets its contract: the three pieces of the line, one behind the other.
 use Rattle.pieces.proofs.Puts.{puts, last, wrote, both}
-use borrow.Author.Rules.{rules}
 use Rattle.reply.proofs.refused.Goals as goal
 
 pub returns : goal.returns

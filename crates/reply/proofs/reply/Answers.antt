@@ -1,5 +1,4 @@
 -- `reply::reply` meets its contract: the deck stands already, and a refusal is its line.
-use borrow.Author.Rules.{rules}
 use Rattle.reply.proofs.reply.Goals as goal
 
 pub returns-in-Refused : goal.returns-in-Refused

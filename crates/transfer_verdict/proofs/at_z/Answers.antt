@@ -1,6 +1,5 @@
 -- `transfer_verdict::at_z` meets its contract: z is rejected, or the velocity is looked at.
 use mathlib.Core.Path.{◌≡◌, refl, ◌∙◌}
-use borrow.Author.Rules.{rules}
 use Rattle.rows.specs.Rows.{onward}
 use Rattle.arc.specs.Arc.{velocity_at}
 use Rattle.compared.specs.Said.{timing}

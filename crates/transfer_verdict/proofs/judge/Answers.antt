@@ -1,6 +1,5 @@
 -- `transfer_verdict::judge` meets its contract: the way, the transfer's own refusal, or what z comes to.
 use mathlib.Core.Path.{◌≡◌, refl, ap, ◌∙◌}
-use borrow.Author.Rules.{rules}
 use Rattle.rows.specs.Rows.{onward, refusal_in}
 use Rattle.arc_entry.specs.Said.{passed_start}
 use Rattle.card.specs.Fields.{parts}

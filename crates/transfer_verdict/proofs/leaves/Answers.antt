@@ -1,6 +1,5 @@
 -- `transfer_verdict::leaves` meets its contract: each return is one way through the definition's row of tests.
 use mathlib.Core.Path.{refl}
-use borrow.Author.Rules.{rules}
 use Rattle.rows.specs.Rows.{must, onward}
 use Rattle.compared.specs.Compared.{found_by}
 use Rattle.transfer_verdict.proofs.leaves.Goals as goal

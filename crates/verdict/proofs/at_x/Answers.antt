@@ -1,6 +1,5 @@
 -- `verdict::at_x` meets its contract: x is rejected, or the state is looked at.
 use mathlib.Core.Path.{◌≡◌, refl, ◌∙◌}
-use borrow.Author.Rules.{rules}
 use Rattle.rows.specs.Rows.{onward}
 use Rattle.conic.specs.Unfolding.{arrival_at}
 use Rattle.compared.specs.Said.{timing}

@@ -1,6 +1,5 @@
 -- `verdict::judge` meets its contract: each kind is one case of the definition.
 use Rattle.verdict.specs.Verdict.{verdict_on}
-use borrow.Author.Rules.{rules}
 use Rattle.verdict.proofs.judge.Goals as goal
 
 pub returns-in-Solved : goal.returns-in-Solved

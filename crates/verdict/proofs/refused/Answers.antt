@@ -1,12 +1,8 @@
 -- `verdict::refused` meets its contract: each return is one way through the definition's row of tests.
 use mathlib.Core.Path.{◌≡◌, refl}
-use mathlib.Core.Bool.{◌&&◌}
-use lib.Dec.{eqb}
-use borrow.Author.Tests.{not-true, not-false}
 use Rattle.rows.specs.Rows.{pass, must}
 use Rattle.card.specs.Fields.{parts}
 use Rattle.verdict.specs.Verdict.{refused_card}
-use borrow.Author.Rules.{rules}
 use Rattle.verdict.proofs.refused.Goals as goal
 use Rattle.verdict.proofs.refused.Goals.{After-refuses_as}
 

@@ -1,6 +1,5 @@
 -- `verdict::refuses_as` meets its contract: each answer is one case of the definition.
 use mathlib.Core.Path.{refl}
-use borrow.Author.Rules.{rules}
 use Rattle.verdict.proofs.refuses_as.Goals as goal
 
 pub returns-in-Refused : goal.returns-in-Refused

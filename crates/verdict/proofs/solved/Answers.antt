@@ -6,7 +6,6 @@ use Rattle.entry.specs.Said.{passed_start}
 use Rattle.card.specs.Fields.{parts}
 use Rattle.ruling.specs.Said.{rejected}
 use Rattle.verdict.specs.Verdict.{at_x, solved_card}
-use borrow.Author.Rules.{rules}
 use Rattle.verdict.proofs.solved.Goals as goal
 use Rattle.verdict.proofs.solved.Goals.{After-entry-start}
 

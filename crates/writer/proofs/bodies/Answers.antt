@@ -2,14 +2,13 @@
 use mathlib.Core.Path.{◌≡◌, sym, ap, ◌∙◌}
 use Prim.Native.Nat.{ℕ, ◌+◌, ◌-◌, ◌≤◌}
 use native.Mathlib.Omega.{arith}
-use borrow.Author.Rules.{rules}
 use lib.ListN.{length, take, drop, get_or}
 use Rattle.pieces.proofs.Puts.{renamed, wrote}
 use Rattle.rows.specs.Rows.{pass}
 use Rattle.card.specs.Said.{named}
 use Rattle.card.specs.Fields.{kind_of}
 use Rattle.card.specs.Made.{body_from}
-use Rattle.writer.proofs.Laying.{Laying, begin, never_unknown, room, turn, laid}
+use Rattle.writer.proofs.Laying.{begin, never_unknown, room, turn, laid}
 use Rattle.writer.proofs.bodies.Goals as goal
 use Rattle.writer.proofs.bodies.Goals.{After-packed}
 

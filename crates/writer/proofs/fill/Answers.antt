@@ -1,7 +1,6 @@
 -- `writer::fill` meets its contract: the contents that the kinds name are those of the cards' deck, and the bodies stand behind them.
 use mathlib.Core.Path.{sym, ap₂}
 use native.Mathlib.Omega.{arith}
-use borrow.Author.Rules.{rules}
 use Rattle.pieces.proofs.Puts.{puts, renamed, wrote, inside}
 use Rattle.layout.specs.Layout.{contents_for}
 use Rattle.layout.proofs.Contents.{contents_first}

@@ -2,13 +2,12 @@
 use mathlib.Core.Path.{◌≡◌, sym, ap, ◌∙◌}
 use Prim.Native.Nat.{◌-◌, ◌≤◌}
 use native.Mathlib.Omega.{arith}
-use borrow.Author.Rules.{rules}
 use lib.ListN.{length, get_or}
 use Rattle.rows.specs.Rows.{pass}
 use Rattle.card.specs.Said.{named}
 use Rattle.card.specs.Fields.{kind_of, packed_size}
 use Rattle.card.proofs.Sizes.{size_most}
-use Rattle.writer.proofs.Measuring.{Measuring, set_out, no_kind, ends_inside, walk_on, some_over, all_read}
+use Rattle.writer.proofs.Measuring.{set_out, no_kind, ends_inside, walk_on, some_over, all_read}
 use Rattle.writer.proofs.measured.Goals as goal
 use Rattle.writer.proofs.measured.Goals.{After-packed-size, Else-fields-at}
 

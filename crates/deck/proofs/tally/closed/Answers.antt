@@ -2,7 +2,6 @@
 use mathlib.Core.Path.{refl}
 use borrow.Author.Tests.{eq-eqb, ne_eqb}
 use Rattle.deck.specs.Tally.{residuals_of}
-use borrow.Author.Rules.{rules}
 use Rattle.deck.proofs.tally.closed.Goals as goal
 
 pub returns-then-running-eq0 : goal.returns-then-running-eq0

@@ -1,6 +1,5 @@
 -- `tally::mean` meets its contract: the sum over the number of solved cards.
 use mathlib.Core.Path.{refl}
-use borrow.Author.Rules.{rules}
 use Rattle.deck.proofs.tally.mean.Goals as goal
 
 pub returns : goal.returns

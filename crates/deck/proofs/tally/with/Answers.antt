@@ -1,6 +1,5 @@
 -- `tally::with` meets its contract: each verdict is one case of the definition.
 use mathlib.Core.Path.{refl}
-use borrow.Author.Rules.{rules}
 use Rattle.deck.proofs.tally.with.Goals as goal
 
 pub returns-in-Solved : goal.returns-in-Solved
