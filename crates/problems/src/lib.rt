@@ -100,8 +100,8 @@ fn answer(
     start: usize,
 ) -> usize
     requires { (length problems.now / given_size version ≤ length kinds.old) × (start ≤ length page.old) }
-    ensures put { Put kinds.old 0 (kinds_of (deck_from version problems.now).cards) kinds.new (length problems.now / given_size version) }
-    ensures put_2 { Put page.old start (bodies_of (deck_from version problems.now).cards) page.new result }
+    ensures kinds_after { Put kinds.old 0 (kinds_of (deck_from version problems.now).cards) kinds.new (length problems.now / given_size version) }
+    ensures page_after { Put page.old start (bodies_of (deck_from version problems.now).cards) page.new result }
 {
     let size = card::given_size(version);
     let mut i = 0;

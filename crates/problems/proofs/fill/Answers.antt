@@ -17,8 +17,8 @@ use Rattle.layout.proofs.Packed.{length_kinds}
 use Rattle.layout.proofs.Contents.{contents_length, contents_first}
 use Rattle.problems.specs.Problems.{deck_from}
 use Rattle.problems.proofs.Made.{as_many}
-use Rattle.problems.proofs.fill.Statement.{statement}
-use Rattle.problems.proofs.fill.Tie as tie
+use Rattle.problems.proofs.fill.Goals as goal
+use Rattle.problems.proofs.fill.Goals.{After-given_size}
 
 -- kinds at the front of a list of 256, bodies behind the place of the contents, then the contents of these kinds
 filled : (v : Version) (problems : List ℕ) {kinds page middle after : List ℕ} {n end stop : ℕ} → n ≡ length problems / given_size v → n ≤ most_cards
@@ -35,35 +35,29 @@ filled v problems {kinds = kinds} {page = page} {middle = middle} {n = n} {end =
     renamed (contents_first d few) (under (subst (λ (at : ℕ). Put page at (bodies_of cards) middle end) place laid) (renamed (ap (contents_for v) kinds_are) contents))
 
 -- how many problems there are
-count_is : (c : tie.After-given-size) → length c.before.before.before.args.problems.now / c.given_size_lem.result ≡ length c.before.before.before.args.problems.now / given_size c.before.before.before.args.version
-count_is c = ap (λ (w : ℕ). length c.before.before.before.args.problems.now / w) c.given_size_lem.ensures
+count_is : (c : After-given_size) → length c.args.problems.now / c.given_size.result ≡ length c.args.problems.now / given_size c.args.version
+count_is c = ap (λ (w : ℕ). length c.args.problems.now / w) c.given_size.ensures
 
-few : (c : tie.After-given-size) → length c.before.before.before.args.problems.now / c.given_size_lem.result ≤ most_cards
-few c = rw (count_is c) c.before.before.before.requires.0
+few : (c : After-given_size) → length c.args.problems.now / c.given_size.result ≤ most_cards
+few c = rw (count_is c) c.requires.0
 
-answer-requires : tie.Need-answer-requires
-answer-requires c κs = (c.before.before.before.before.before.requires.0, rw (count_is c.before.before) c.before.before.before.before.before.requires.1)
+pub answer-end-requires : goal.answer-end-requires
+answer-end-requires c = (c.requires.0, rw (count_is (goal.at.answer-end-requires c).After-given_size) c.requires.1)
 
-slice-aggregate-put-contents : tie.Need-slice-aggregate-put-contents
-slice-aggregate-put-contents c = sym (length-take-le _ _ (rw (count_is c.before.before.before.before.before.before.before) (inside c.before.before.before.before.answer.ensures.0)))
+pub slice_bounds-put_contents-end : goal.slice_bounds-put_contents-end
+slice_bounds-put_contents-end c = sym (length-take-le _ _ (rw (count_is (goal.at.slice_bounds-put_contents-end c).After-given_size) (inside c.answer-end.ensures.kinds_after)))
 
-returns : tie.Need-returns
-returns c =
-    let from = c.before.before.before.before.before.before.before.before.before.before.before.before.before.before in
-    filled from.args.version from.args.problems.now (count_is c.before.before.before.before.before.before.before.before.before.before.before) (few c.before.before.before.before.before.before.before.before.before.before.before) c.before.before.before.before.before.before.before.before.answer.ensures.0 c.before.before.before.before.before.before.before.before.answer.ensures.1 (wrote c.before.before.put-contents.ensures)
+pub returns : goal.returns
+returns c = filled c.args.version c.args.problems.now (count_is (goal.at.returns c).After-given_size) (few (goal.at.returns c).After-given_size) c.answer-end.ensures.kinds_after c.answer-end.ensures.page_after (wrote (c.put_contents.ensures.value, c.put_contents.ensures.out_after))
 
-pub fill_spec : {M : Type 1} → statement M
-fill_spec =
-    tie.close
-    (tie.spec
-    (λ c κs. search rules)
-    (λ c. omega (arith, c.given_size_lem.ensures))
-    (λ c. search rules)
-    (λ c. omega (arith, few c.before.before))
-    (λ c. omega (arith, few c.before.before))
-    answer-requires
-    (λ c. rw (count_is c.before.before.before.before.before.before) (inside c.before.before.before.answer.ensures.0))
-    slice-aggregate-put-contents
-    (λ c κs. search rules)
-    (λ c. search rules)
-    returns)
+pub nonzero_div-count : goal.nonzero_div-count
+nonzero_div-count c = omega (arith, c.given_size.ensures)
+
+pub overflow_mul-count : goal.overflow_mul-count
+overflow_mul-count c = omega (arith, few (goal.at.overflow_mul-count c).After-given_size)
+
+pub overflow_add-count : goal.overflow_add-count
+overflow_add-count c = omega (arith, few (goal.at.overflow_add-count c).After-given_size)
+
+pub slice_bounds-kinds-end : goal.slice_bounds-kinds-end
+slice_bounds-kinds-end c = rw (count_is (goal.at.slice_bounds-kinds-end c).After-given_size) (inside c.answer-end.ensures.kinds_after)

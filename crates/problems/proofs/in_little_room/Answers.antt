@@ -1,0 +1,40 @@
+-- `problems::in_little_room` meets its contract: the page has room for the deck, and its front is written into the buffer where it fits.
+use mathlib.Core.Path.{◌≡◌, refl, sym}
+use mathlib.Core.List.{List}
+use Prim.Native.Nat.{ℕ, ◌/◌, ◌≤◌}
+use native.Mathlib.Omega.{arith}
+use borrow.Author.Rules.{rules}
+use lib.ListN.{length, take}
+use lib.Seq.{length-take-le}
+use Rattle.pieces.specs.Pieces.{Put}
+use Rattle.pieces.proofs.Puts.{renamed, wrote, inside, front}
+use Rattle.version.specs.declared.Version.{Version}
+use Rattle.card.specs.Fields.{given_size}
+use Rattle.contents.specs.Contents.{most_cards, largest_deck}
+use Rattle.layout.specs.Layout.{deck_of}
+use Rattle.layout.proofs.Sizes.{deck_most}
+use Rattle.layout.proofs.Writing.{no_room_writes, deck_writes}
+use Rattle.problems.specs.Problems.{deck_from}
+use Rattle.problems.proofs.Made.{as_many, sized}
+use Rattle.problems.proofs.in_little_room.Goals as goal
+
+-- the deck at the front of a page that has room for any
+deck_there : (v : Version) (problems : List ℕ) {page after : List ℕ} {end : ℕ} → length problems / given_size v ≤ most_cards → largest_deck ≡ length page
+    → Put page 0 (deck_of (deck_from v problems)) after end → (end ≡ length (deck_of (deck_from v problems))) × (take end after ≡ deck_of (deck_from v problems))
+deck_there v problems h room p =
+    let n : ℕ = length problems / given_size v in
+    front p (omega (arith, deck_most (deck_from v problems) (omega (arith, as_many v n problems)) (sized v problems), room))
+
+pub returns-then-buffer-end : goal.returns-then-buffer-end
+returns-then-buffer-end c = let d = deck_there c.args.version c.args.problems.now c.requires c.blank-page.ensures c.fill-end.ensures in
+    let both = no_room_writes c.args.buffer.now refl (omega (arith, d.0)) in record { result_value = both.0; buffer_after = both.1 }
+
+pub slice_bounds-page-end : goal.slice_bounds-page-end
+slice_bounds-page-end c = inside c.fill-end.ensures
+
+pub slice_bounds-put-end : goal.slice_bounds-put-end
+slice_bounds-put-end c = sym (length-take-le _ _ (inside c.fill-end.ensures))
+
+pub returns : goal.returns
+returns c = let d = deck_there c.args.version c.args.problems.now c.requires c.blank-page.ensures c.fill-end.ensures in
+    let both = deck_writes refl (omega (arith, d.0)) (renamed d.1 (wrote (c.put.ensures.value, c.put.ensures.out_after))) in record { result_value = both.0; buffer_after = both.1 }
