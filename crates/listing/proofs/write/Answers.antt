@@ -4,7 +4,6 @@ use mathlib.Core.Path.{◌≡◌, sym, ap, ◌∙◌}
 use mathlib.Core.List.{List, [], ◌∷◌}
 use Prim.Native.Nat.{ℕ, ◌+◌}
 use native.Mathlib.Omega.{arith}
-use borrow.Author.Rules.{rules}
 use lib.ListN.{replicate}
 use Rattle.pieces.specs.Pieces.{joined}
 use Rattle.pieces.proofs.Puts.{puts, last, renamed, wrote}
@@ -20,8 +19,8 @@ use Rattle.reply.specs.Reply.{refused_line}
 use Rattle.listed.specs.Listed.{totals_line, residual_lines}
 use Rattle.listing.specs.Listing.{card_lines, lines_for, listing_of}
 use Rattle.listing.specs.Judged.{Judged}
-use Rattle.listing.proofs.write.Statement.{statement}
-use Rattle.listing.proofs.write.Tie as tie
+use Rattle.listing.proofs.write.Goals as goal
+use Rattle.listing.proofs.write.Goals.{In-Accepted}
 
 -- a refused deck's listing, and an accepted one's
 only_line : (deck : List ℕ) {k : ℕ} → deck_in deck ≡ refuse k → refused_line k ≡ listing_of deck
@@ -37,32 +36,23 @@ judged : {deck list after : List ℕ} {totals : Totals} {r : Residuals} → Answ
 judged a e = record { is = a.is; deck_is = a.deck_is; as_many = sym a.as_many; behind = _; numbers = e ∙ a.numbers }
 
 -- the deck was accepted
-accepted : (c : tie.After-totals) → Answered c.before.before.before.before.before.before.before.args.deck.now (replicate most_cards 0) c.totals.given.0.0 (told c.totals.given.0.1.0)
-accepted c = answered _ _ _ _ (sym c.before.before.before.check.ensures.0 ∙ ap said c.totals.given.1)
+accepted : (c : In-Accepted) → Answered c.args.deck.now (replicate most_cards 0) c.in-Accepted.totals (told c.in-Accepted.residuals)
+accepted c = answered _ _ _ _ (sym c.check.ensures.result_value ∙ ap said c.in-Accepted.is)
 
-add-count : tie.Need-overflow-add-count
-add-count c = let a = accepted c.before.before in omega (arith, a.as_many, a.few)
+pub overflow_add-count : goal.overflow_add-count
+overflow_add-count c = let a = accepted (goal.at.overflow_add-count c).In-Accepted in omega (arith, a.as_many, a.few)
 
-add-count-2 : tie.Need-overflow-add-count-2
-add-count-2 c = let a = accepted c.before.before.before in omega (arith, a.as_many, a.few)
+pub overflow_add-count-in-Accepted : goal.overflow_add-count-in-Accepted
+overflow_add-count-in-Accepted c = let a = accepted (goal.at.overflow_add-count-in-Accepted c).In-Accepted in omega (arith, a.as_many, a.few)
 
-cards-requires : tie.Need-cards-requires
-cards-requires c κs = let t = c.before.before.before.before.before in judged (accepted t) t.before.before.before.check.ensures.1
+pub cards-shown-requires : goal.cards-shown-requires
+cards-shown-requires c = judged (accepted (goal.at.cards-shown-requires c).In-Accepted) c.check.ensures.verdicts_after
 
-returns : tie.Need-returns
-returns c =
-    let w = c.before.before.before.before.before.before in
-    let deck = w.before.before.before.before.before.before.before.args.deck.now in
-    let contents = refused_contents deck most_cards (reason_number w.why.given.0.0) (omega arith) (sym w.before.before.before.check.ensures.0 ∙ ap said w.why.given.1) in
-    renamed (ap refused_line c.before.before.before.before.number.ensures ∙ only_line deck contents) (wrote c.before.before.refused.ensures)
+pub returns-in-Refused : goal.returns-in-Refused
+returns-in-Refused c = let deck = c.args.deck.now in
+    let contents = refused_contents deck most_cards (reason_number c.in-Refused.why) (omega arith) (sym c.check.ensures.result_value ∙ ap said c.in-Refused.is) in
+    renamed (ap refused_line c.number.ensures ∙ only_line deck contents) (wrote (c.refused.ensures.value, c.refused.ensures.page_after))
 
-returns-2 : tie.Need-returns-2
-returns-2 c =
-    let s3 = c.before.before in
-    let s2 = s3.before.before.before.before in
-    let s1 = s2.before.before.before.before in
-    let a = accepted s1.before.before.before.before.before.before in
-    renamed (all_lines a) (puts (s1.cards.ensures a.is a.deck_is) (puts (wrote s2.totals_line_lem.ensures) (last (wrote s3.residual-lines.ensures))))
-
-pub write_spec : {M : Type 1} → statement M
-write_spec = tie.close (tie.spec (λ c. search rules) (λ c κs. search rules) (λ c. search rules) (λ c κs. search rules) (λ c κs. search rules) (λ c. search rules) add-count add-count-2 (λ c. search rules) cards-requires (λ c κs. search rules) (λ c κs. search rules) (λ c. search rules) returns (λ c. search rules) returns-2)
+pub returns-in-Accepted : goal.returns-in-Accepted
+returns-in-Accepted c = let a = accepted (goal.at.returns-in-Accepted c).In-Accepted in
+    renamed (all_lines a) (puts (c.cards-shown.ensures a.is a.deck_is) (puts (wrote (c.totals_line-totalled.ensures.value, c.totals_line-totalled.ensures.page_after)) (last (wrote (c.residual_lines.ensures.value, c.residual_lines.ensures.page_after)))))
