@@ -8,7 +8,7 @@ use Rattle.rows.proofs.Laws.{taken_back}
 use Rattle.units.specs.declared.Finite.{Finite}
 use Rattle.units.specs.declared.Finite.TheVariants as finite
 use Rattle.units.specs.declared.Length.{Length}
-use Rattle.units.specs.declared.Length.TheVariants as length
+use Rattle.units.specs.declared.Length.TheVariants as span
 use Rattle.units.specs.declared.TimeUnit.{TimeUnit}
 use Rattle.units.specs.declared.TimeUnit.TheVariants as unit
 use Rattle.units.specs.Units.{Measured, measured, unusable, root_refused}
@@ -25,14 +25,14 @@ pub given_once : OneToOne given_said
 given_once = undone given_said ungiven given_is
 
 abbrev unlength : Measured Float → Length
-unlength (measured r0) = length.Measured r0
-unlength unusable = length.Unusable
-unlength root_refused = length.RootRefused
+unlength (measured r0) = span.Measured r0
+unlength unusable = span.Unusable
+unlength root_refused = span.RootRefused
 
 length_is : (a : Length) → unlength (length_said a) ≡ a
-length_is (length.Measured r0) = refl
-length_is length.Unusable = refl
-length_is length.RootRefused = refl
+length_is (span.Measured r0) = refl
+length_is span.Unusable = refl
+length_is span.RootRefused = refl
 
 pub length_once : OneToOne length_said
 length_once = undone length_said unlength length_is

@@ -4,7 +4,7 @@ use Rattle.rows.specs.Rows.{Checked, pass, refuse}
 use Rattle.units.specs.declared.Finite.{Finite}
 use Rattle.units.specs.declared.Finite.TheVariants as finite
 use Rattle.units.specs.declared.Length.{Length}
-use Rattle.units.specs.declared.Length.TheVariants as length
+use Rattle.units.specs.declared.Length.TheVariants as span
 use Rattle.units.specs.declared.TimeUnit.{TimeUnit}
 use Rattle.units.specs.declared.TimeUnit.TheVariants as unit
 use Rattle.units.specs.Units.{Measured, measured, unusable, root_refused}
@@ -14,9 +14,9 @@ given_said finite.All = pass tt
 given_said (finite.NotAt place) = refuse place
 
 abbrev pub length_said : Length → Measured Float
-length_said (length.Measured r0) = measured r0
-length_said length.Unusable = unusable
-length_said length.RootRefused = root_refused
+length_said (span.Measured r0) = measured r0
+length_said span.Unusable = unusable
+length_said span.RootRefused = root_refused
 
 abbrev pub unit_said : TimeUnit → Measured (Float × Float)
 unit_said (unit.Measured f1 f4) = measured (f1, f4)
