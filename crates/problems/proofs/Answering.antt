@@ -1,5 +1,5 @@
 -- The loop that answers problems, turn by turn: the kinds and the bodies of the cards of the problems so far stand in their list and on the page.
-use mathlib.Core.Path.{◌≡◌, refl, sym, ap, ◌∙◌}
+use mathlib.Core.Path.{◌≡◌, sym, ap, ◌∙◌}
 use mathlib.Core.List.{List, [], ◌∷◌, ◌++◌}
 use Prim.Native.Nat.{ℕ, zero, suc, ◌+◌, ◌-◌, ◌*◌, ◌/◌, ◌≤◌, ◌<◌}
 use native.Mathlib.Nat.{add_comm, mul-zero, mul-suc, le_trans}

@@ -1,7 +1,7 @@
 -- The cards of problems: as many as there are problems, each with its kind's size; and what all problems come to, a deck or a refusal.
-use mathlib.Core.Path.{◌≡◌, refl, sym, ap, subst, ◌∙◌}
+use mathlib.Core.Path.{◌≡◌, refl, ap, ◌∙◌}
 use mathlib.Core.List.{List}
-use Prim.Native.Nat.{ℕ, zero, suc, ◌+◌, ◌*◌, ◌/◌, ◌%◌, ◌≤◌, ◌<◌}
+use Prim.Native.Nat.{ℕ, zero, suc, ◌*◌, ◌/◌, ◌%◌, ◌≤◌, ◌<◌}
 use native.Mathlib.Nat.{mul-suc}
 use native.Mathlib.Omega.{arith}
 use borrow.Author.Tests.{le-leb, lt-leb, eq-eqb, ne_eqb}
@@ -11,11 +11,10 @@ use Rattle.rows.specs.Rows.{pass, refuse, must}
 use Rattle.version.specs.declared.Version.{Version}
 use Rattle.version.specs.Version.{tag_size}
 use Rattle.kepler.specs.Kepler.{kepler_of}
-use Rattle.card.specs.Fields.{Card, problem_size, given_size, problem_of, size_of}
+use Rattle.card.specs.Fields.{problem_size, given_size, problem_of}
 use Rattle.card.proofs.Packed.{made_size}
 use Rattle.contents.specs.Contents.{most_cards}
 use Rattle.contents.proofs.Cards.{AllSized}
-use Rattle.predicted.specs.Predicted.{card_of}
 use Rattle.problems.specs.Problems.{cards_for, deck_from, predicted_deck}
 use Rattle.problems.proofs.Answering.{some}
 use Rattle.problems.proofs.Widths.{inside}

@@ -1,5 +1,5 @@
 -- How many records of one width some bytes have: what one more record, the last one, and whole records say of the quotient.
-use mathlib.Core.Path.{◌≡◌, refl, sym, ap, ◌∙◌}
+use mathlib.Core.Path.{◌≡◌, sym, ap, ◌∙◌}
 use Prim.Native.Nat.{ℕ, ◌+◌, ◌-◌, ◌*◌, ◌/◌, ◌%◌, ◌≤◌, ◌<◌}
 use native.Mathlib.Nat.{mul_comm, mul-suc, div-add-mod, mul-div-le, le-div_iff_mul-le, div-eq_of_lt-le, mul-div_right, mul-mod_right}
 use native.Mathlib.Numerals.{add-one}

@@ -3,13 +3,12 @@ use mathlib.Core.Path.{◌≡◌, sym, ap, ◌∙◌}
 use mathlib.Core.List.{List}
 use Prim.Native.Nat.{ℕ, ◌-◌}
 use native.Mathlib.Omega.{arith}
-use borrow.Author.Rules.{rules}
 use lib.ListN.{length, take, drop, length-drop}
 use lib.Seq.{take_all}
 use Rattle.pieces.proofs.Puts.{as_long}
 use Rattle.predicted.specs.Predicted.{first_card, placed_in, with_body, said}
 use Rattle.predicted.proofs.First.{never_refused}
-use Rattle.problems.proofs.Answering.{Answering, start, room, whole, turn, count_is}
+use Rattle.problems.proofs.Answering.{start, room, whole, turn, count_is}
 use Rattle.problems.proofs.answer.Goals as goal
 use Rattle.problems.proofs.answer.Goals.{In_default}
 

@@ -1,15 +1,7 @@
 -- What lasts over the turns of `problems::answer`, and why they end.
-use mathlib.Core.Path.{◌≡◌, sym, ap, ◌∙◌}
-use mathlib.Core.List.{List}
-use Prim.Native.Nat.{ℕ, ◌-◌}
-use native.Mathlib.Omega.{arith}
-use borrow.Author.Rules.{rules}
-use lib.ListN.{length, take, drop, length-drop}
-use lib.Seq.{take_all}
-use Rattle.pieces.proofs.Puts.{as_long}
-use Rattle.predicted.specs.Predicted.{first_card, placed_in, with_body, said}
-use Rattle.predicted.proofs.First.{never_refused}
-use Rattle.problems.proofs.Answering.{Answering, start, room, whole, turn, count_is}
+use Prim.Native.Nat.{◌-◌}
+use lib.ListN.{length}
+use Rattle.problems.proofs.Answering.{Answering}
 use Rattle.problems.proofs.answer.Given as goal
 
 abbrev pub invariant-loop-at : goal.invariant-loop-at

@@ -1,6 +1,5 @@
 -- `problems::write` meets its contract: no version is given, or the deck is written in the version that is.
-use mathlib.Core.Path.{◌≡◌, sym, ap, ◌∙◌}
-use borrow.Author.Rules.{rules}
+use mathlib.Core.Path.{sym, ap, ◌∙◌}
 use Rattle.version.specs.Version.{stated}
 use Rattle.layout.proofs.Writing.{no_version_writes, version_writes}
 use Rattle.problems.specs.Problems.{predicted_deck, problem_deck}
