@@ -1,4 +1,4 @@
-// Prediction, transfer, check and writing as functions that a C program links: `rt staticlib linked`.
+// Prediction, transfer, check and writing as functions that a C program links: `rt lib` in its folder.
 //
 // What is asked and answered is bytes and single numbers, so that a caller in C needs no layout of
 // ours. A slice is a pointer and a length. All functions are proved and total, and the crate assumes
