@@ -14,8 +14,9 @@ from front.streams import Stop
 
 # How long rt has to be quiet, in seconds, before it is said what it proves.
 QUIET = 0.3
-# The lines in which rt names the crate that it is at: it begins with it, or has proved something of it.
-AT = re.compile(r"^(?:rt: chose --jobs \d+ for (\w+)|rt: (\w+): begins with .*|\w+ (\w+)::.*: proved)$", re.M)
+# The lines in which rt names the crate that it is at: it chose how to check it, or has proved something of it.
+# Where an earlier check kept something, rt says so of every crate before it comes to the first.
+AT = re.compile(r"^(?:rt: chose --jobs \d+ for (\w+)|\w+ (\w+)::.*: proved)$", re.M)
 
 
 def build(program: Program, rt: str) -> None:
