@@ -14,13 +14,6 @@ pub enum Version {
     Two,
 }
 
-// What numbers state: a version, or none.
-#[derive(Clone, Copy)]
-pub enum Stated {
-    Version(Version),
-    Unknown,
-}
-
 impl Version {
     // Its number at the front of a deck.
     pub fn number(self) -> u32
@@ -57,25 +50,23 @@ impl Version {
 pub const TAG: usize = 4 + 8;
 
 // The version that has this number.
-pub fn named(number: u32) -> Stated
+pub fn named(number: u32) -> Option<Version>
     ensures { named_said result ≡ version_of number }
 {
     match number {
-        1 => Stated::Version(Version::One),
-        2 => Stated::Version(Version::Two),
-        _ => Stated::Unknown,
+        1 => Some(Version::One),
+        2 => Some(Version::Two),
+        _ => None,
     }
 }
 
 // The version that is given for a deck, where what goes into it has that version's form.
-pub fn given(number: u32, form: u32) -> Stated
+pub fn given(number: u32, form: u32) -> Option<Version>
     ensures { given_said result ≡ version_given number form }
 {
-    let Stated::Version(version) = named(number) else {
-        return Stated::Unknown;
-    };
+    let version = named(number)?;
     if form != version.form() {
-        return Stated::Unknown;
+        return None;
     }
-    Stated::Version(version)
+    Some(version)
 }
