@@ -6,10 +6,10 @@
 #![tactic(auto)]
 
 ghost use Rattle.std.specs.Prelude.{◌≡◌};
-ghost use Rattle.arc.specs.Said.{reason_number, departs};
+ghost use Rattle.rows.specs.Rows.{checked};
+ghost use Rattle.arc.specs.Said.{reason_number};
 ghost use Rattle.arc.specs.Arc.{root_or_nan, shape_at, time_at, departure_in, velocity_at};
 
-use root::Answer;
 use vectors::Vector;
 
 // Which way round: through less than half a turn, or through more.
@@ -86,13 +86,6 @@ impl Reason {
     }
 }
 
-// The velocity at r1, or why there is none.
-#[derive(Clone, Copy)]
-pub enum Departure {
-    Velocity(Vector),
-    Refused(Reason),
-}
-
 impl Scaled {
     // T(z): the scaled time.
     pub fn time_at(self, z: f64) -> f64
@@ -103,15 +96,15 @@ impl Scaled {
         x * x * x * h.s + self.a * h.g
     }
 
-    // The velocity that z comes to, where every component is finite.
-    pub fn velocity_at(self, z: f64) -> Departure
-        ensures { departs result ≡ velocity_at self z }
+    // The velocity at r1 that z comes to, where every component is finite.
+    pub fn velocity_at(self, z: f64) -> Result<Vector, Reason>
+        ensures { checked reason_number result ≡ velocity_at self z }
     {
         let v = leaving(self, shape_at(self.rho, self.a, z));
         if !vectors::all_finite(v) {
-            return Departure::Refused(Reason::NotFinite);
+            return Err(Reason::NotFinite);
         }
-        Departure::Velocity(v)
+        Ok(v)
     }
 }
 
@@ -131,10 +124,7 @@ fn shape_at(rho: f64, a: f64, z: f64) -> Shape
 fn root_or_nan(x: f64) -> f64
     ensures { result ≡ root_or_nan x }
 {
-    match root::root(x) {
-        Answer::Root(r) => r,
-        Answer::Refused(_) => 0.0 / 0.0,
-    }
+    root::root(x).unwrap_or(0.0 / 0.0)
 }
 
 // ((d - u*F)/G)/f1, by component.

@@ -2,8 +2,7 @@
 use mathlib.Core.Path.{refl}
 use Rattle.coincidence.specs.Coincidence.{Fixes}
 use Rattle.coincidence.proofs.Laws.{one_result, one_answer}
-use Rattle.rows.proofs.Laws.{stated_once}
-use Rattle.universal.specs.Series.{out_of_range}
+use Rattle.universal.proofs.Theorems.{summed_once, valued_once}
 use Rattle.universal.proofs.series.refusal.Reads as series-refusal
 use Rattle.universal.proofs.series.refusal.Kinds as series-refusal-kinds
 use Rattle.universal.proofs.series.c2.Reads as series-c2
@@ -25,16 +24,16 @@ pub series_refusal_fixes : Fixes 0 series-refusal-kinds.ps series-refusal-kinds.
 series_refusal_fixes κs a x y v w p q = (one_result p q, refl)
 
 pub series_c2_fixes : Fixes 0 series-c2-kinds.ps series-c2-kinds.r series-c2.Learnt
-series_c2_fixes κs a x y v w p q = (one_answer (stated_once out_of_range) x y p q, refl)
+series_c2_fixes κs a x y v w p q = (one_answer summed_once x y p q, refl)
 
 pub series_c3_fixes : Fixes 0 series-c3-kinds.ps series-c3-kinds.r series-c3.Learnt
-series_c3_fixes κs a x y v w p q = (one_answer (stated_once out_of_range) x y p q, refl)
+series_c3_fixes κs a x y v w p q = (one_answer summed_once x y p q, refl)
 
 pub series_both_or_nan_fixes : Fixes 0 series-both-or-nan-kinds.ps series-both-or-nan-kinds.r series-both-or-nan.Learnt
 series_both_or_nan_fixes κs a x y v w p q = (one_result p q, refl)
 
 pub at_fixes : Fixes 0 at-kinds.ps at-kinds.r at.Learnt
-at_fixes κs a x y v w p q = (one_answer (stated_once out_of_range) x y p q, refl)
+at_fixes κs a x y v w p q = (one_answer valued_once x y p q, refl)
 
 pub at_or_nan_fixes : Fixes 0 at-or-nan-kinds.ps at-or-nan-kinds.r at-or-nan.Learnt
 at_or_nan_fixes κs a x y v w p q = (one_result p q, refl)
