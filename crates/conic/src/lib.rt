@@ -8,7 +8,9 @@
 ghost use Rattle.std.specs.Prelude.{◌≡◌};
 ghost use Rattle.conic.specs.Said.{input_number, reason_number, is_meant_by};
 ghost use Rattle.conic.specs.TimeAndRatio.{time_at};
+ghost use Rattle.conic.specs.Unfolding.{arrival_at};
 
+use search::{Sought, Why};
 use vectors::Vector;
 
 pub mod unfolding;
@@ -49,6 +51,31 @@ impl Scaled {
         ensures { result ≡ time_at self x }
     {
         universal::time(self.s, universal::at_or_nan(x, self.alpha))
+    }
+}
+
+// What a prediction searches for: the x whose time is t, and the state that it unfolds to.
+impl Sought for Scaled {
+    type Found = State;
+
+    type Reason = Reason;
+
+    ghost time_at = { time_at };
+
+    ghost wanted_time = { λ o. o.t };
+
+    ghost found_at = { arrival_at };
+
+    fn time_at(self, x: f64) -> f64 {
+        Scaled::time_at(self, x)
+    }
+
+    fn wanted_time(self) -> f64 {
+        self.t
+    }
+
+    fn found_at(self, x: f64) -> Result<State, Reason> {
+        unfolding::arrive_at(self, x)
     }
 }
 
@@ -117,10 +144,21 @@ fn input_number(place: u8) -> u32
     FIRST_INPUT + place as u32
 }
 
-// A prediction's answer. The bracket's ends come with reasons 9 and 10.
-#[derive(Clone, Copy)]
-pub enum Outcome {
-    Solved { x: f64, count: u32, state: State },
-    Refused(Reason, u32),
-    RefusedWithBracket(Reason, u32, f64, f64),
+impl Why for Reason {
+    ghost number = { reason_number };
+
+    fn not_finite() -> Reason {
+        Reason::NotFinite
+    }
+
+    fn bracket_closed() -> Reason {
+        Reason::BracketClosed
+    }
+
+    fn limit_reached() -> Reason {
+        Reason::LimitReached
+    }
 }
+
+// A prediction's answer.
+pub type Outcome = search::Outcome<State, Reason>;
