@@ -10,6 +10,7 @@ ghost use Rattle.rows.specs.Rows.{checked};
 ghost use Rattle.arc.specs.Said.{reason_number};
 ghost use Rattle.arc.specs.Arc.{root_or_nan, shape_at, time_at, departure_in, velocity_at};
 
+use search::{Sought, Why};
 use vectors::Vector;
 
 // Which way round: through less than half a turn, or through more.
@@ -86,6 +87,22 @@ impl Reason {
     }
 }
 
+impl Why for Reason {
+    ghost number = { reason_number };
+
+    fn not_finite() -> Reason {
+        Reason::NotFinite
+    }
+
+    fn bracket_closed() -> Reason {
+        Reason::BracketClosed
+    }
+
+    fn limit_reached() -> Reason {
+        Reason::LimitReached
+    }
+}
+
 impl Scaled {
     // T(z): the scaled time.
     pub fn time_at(self, z: f64) -> f64
@@ -105,6 +122,31 @@ impl Scaled {
             return Err(Reason::NotFinite);
         }
         Ok(v)
+    }
+}
+
+// What a transfer searches for: the z whose time is t, and the velocity that it comes to.
+impl Sought for Scaled {
+    type Found = Vector;
+
+    type Reason = Reason;
+
+    ghost time_at = { time_at };
+
+    ghost wanted_time = { λ o. o.t };
+
+    ghost found_at = { velocity_at };
+
+    fn time_at(self, z: f64) -> f64 {
+        Scaled::time_at(self, z)
+    }
+
+    fn wanted_time(self) -> f64 {
+        self.t
+    }
+
+    fn found_at(self, z: f64) -> Result<Vector, Reason> {
+        self.velocity_at(z)
     }
 }
 
