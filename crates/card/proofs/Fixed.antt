@@ -2,7 +2,7 @@
 use mathlib.Core.Path.{refl}
 use Rattle.coincidence.specs.Coincidence.{Fixes}
 use Rattle.coincidence.proofs.Laws.{one_result, one_answer}
-use Rattle.rows.proofs.Laws.{stated_once}
+use Rattle.card.proofs.Theorems.{named_once, asked_once}
 use Rattle.card.proofs.Kind.number.Reads as kind-number
 use Rattle.card.proofs.Kind.number.Kinds as kind-number-kinds
 use Rattle.card.proofs.Kind.packed.Reads as kind-packed
@@ -48,7 +48,7 @@ pub tag_fixes : Fixes 1 tag-kinds.ps tag-kinds.r tag.Learnt
 tag_fixes κs a x y v w p q = (one_result p q, refl)
 
 pub kind_of_fixes : Fixes 0 kind-of-kinds.ps kind-of-kinds.r kind-of.Learnt
-kind_of_fixes κs a x y v w p q = (one_answer (stated_once 34) x y p q, refl)
+kind_of_fixes κs a x y v w p q = (one_answer named_once x y p q, refl)
 
 pub number_fixes : Fixes 1 number-kinds.ps number-kinds.r number.Learnt
 number_fixes κs a x y v w p q = (one_result p q, refl)
@@ -57,4 +57,4 @@ pub problem_fixes : Fixes 1 problem-kinds.ps problem-kinds.r problem.Learnt
 problem_fixes κs a x y v w p q = (one_result p q, refl)
 
 pub transfer_fixes : Fixes 1 transfer-kinds.ps transfer-kinds.r transfer.Learnt
-transfer_fixes κs a x y v w p q = (one_answer (stated_once 23) x y p q, refl)
+transfer_fixes κs a x y v w p q = (one_answer asked_once x y p q, refl)

@@ -3,4 +3,5 @@ pub mod Packed
 pub mod Numbers
 pub mod Given
 pub mod Parts
+pub mod Theorems
 pub mod Fixed
