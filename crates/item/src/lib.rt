@@ -12,7 +12,7 @@ use tag::Tag;
 
 // `card PLACE KIND OBJECT EPOCH VERDICT`, from index at on, with `-` twice where there are no object and
 // epoch. Answers where it ends.
-pub fn line(place: u32, kind: Kind, tag: Tag, verdict: u32, page: &mut [u8], at: usize) -> usize
+pub fn line(place: u32, kind: Kind, tag: Option<Tag>, verdict: u32, page: &mut [u8], at: usize) -> usize
     ensures value { result ≡ end_in page.old at (placed_line place kind tag verdict) }
     ensures page_after { page.new ≡ put_in page.old at (placed_line place kind tag verdict) }
 {
