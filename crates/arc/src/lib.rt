@@ -90,15 +90,15 @@ impl Reason {
 impl Why for Reason {
     ghost number = { reason_number };
 
-    fn not_finite() -> Reason {
+    fn lost() -> Reason {
         Reason::NotFinite
     }
 
-    fn bracket_closed() -> Reason {
+    fn closed() -> Reason {
         Reason::BracketClosed
     }
 
-    fn limit_reached() -> Reason {
+    fn spent() -> Reason {
         Reason::LimitReached
     }
 }

@@ -147,15 +147,15 @@ fn input_number(place: u8) -> u32
 impl Why for Reason {
     ghost number = { reason_number };
 
-    fn not_finite() -> Reason {
+    fn lost() -> Reason {
         Reason::NotFinite
     }
 
-    fn bracket_closed() -> Reason {
+    fn closed() -> Reason {
         Reason::BracketClosed
     }
 
-    fn limit_reached() -> Reason {
+    fn spent() -> Reason {
         Reason::LimitReached
     }
 }

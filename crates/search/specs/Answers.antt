@@ -14,14 +14,15 @@ pub data Answer (A : Type 0) : Type 0 where
   refused : ℕ → ℕ → Answer A
   refused_with_bracket : ℕ → ℕ → Float → Float → Answer A
 
--- what an outcome says, where its reasons have these numbers: a refusal names the bracket's ends where it has them
-abbrev ended_with : {A : Type 0} → (k n : ℕ) → Option (Float × Float) → Answer A
-ended_with k n None = refused k n
-ended_with k n (Some ends) = refused_with_bracket k n ends.0 ends.1
+-- a refusal, which names the bracket's ends where it has them
+abbrev pub refused_with : {A : Type 0} → (k n : ℕ) → Option (Float × Float) → Answer A
+refused_with k n None = refused k n
+refused_with k n (Some ends) = refused_with_bracket k n ends.0 ends.1
 
+-- what an outcome says, where its reasons have these numbers
 abbrev pub answered : {A W : Type 0} → (number : W → ℕ) → Result (Solution A) (Refusal W) → Answer A
 answered number (Ok s) = solved s.x s.count s.found
-answered number (Err r) = ended_with (number r.why) r.count r.ends
+answered number (Err r) = refused_with (number r.why) r.count r.ends
 
 -- a solution, where what is found at x is allowed; else its refusal
 abbrev pub with_found : {A : Type 0} → (x : Float) (n : ℕ) → Checked A → Answer A

@@ -9,7 +9,7 @@ ghost use Rattle.std.specs.Prelude.{◌≡◌, ℕ, Float};
 ghost use Rattle.rows.specs.Rows.{Checked, checked};
 ghost use Rattle.search.specs.Search.{limit_allowed, within, first_guess, narrowed_by, line_through, inside, middle_of, choose, next_guess, search_of};
 ghost use Rattle.search.specs.Said.{said, ended};
-ghost use Rattle.search.specs.Answers.{with_found, answer_of, answer_from, answered};
+ghost use Rattle.search.specs.Answers.{with_found, answer_of, answer_from, answered, refused_with};
 
 // A guess or an end, with its time.
 #[derive(Clone, Copy)]
@@ -58,15 +58,15 @@ pub trait Why: Copy {
     ghost number: { Self → ℕ };
 
     // 6: a time that is not finite.
-    fn not_finite() -> Self
+    fn lost() -> Self
         ensures { number result ≡ 6 };
 
     // 9: a bracket with nothing left inside.
-    fn bracket_closed() -> Self
+    fn closed() -> Self
         ensures { number result ≡ 9 };
 
     // 10: the limit of guesses.
-    fn limit_reached() -> Self
+    fn spent() -> Self
         ensures { number result ≡ 10 };
 }
 
@@ -101,11 +101,7 @@ pub fn answer<S: Sought>(
 {
     match entry {
         Ok((o, start)) => settled(o, searched(o, o.wanted_time(), start, limit)),
-        Err(why) => Err(Refusal {
-            why,
-            count: 0,
-            ends: None,
-        }),
+        Err(why) => refused(why, 0, None),
     }
 }
 
@@ -145,21 +141,9 @@ fn settled<S: Sought>(o: S, found: Found) -> Outcome<S::Found, S::Reason>
 {
     match found {
         Found::Solved(x, count) => with_found(o.found_at(x), x, count),
-        Found::Closed(b, count) => Err(Refusal {
-            why: S::Reason::bracket_closed(),
-            count,
-            ends: Some((b.lo.x, b.hi.x)),
-        }),
-        Found::Spent(b, count) => Err(Refusal {
-            why: S::Reason::limit_reached(),
-            count,
-            ends: Some((b.lo.x, b.hi.x)),
-        }),
-        Found::Lost(count) => Err(Refusal {
-            why: S::Reason::not_finite(),
-            count,
-            ends: None,
-        }),
+        Found::Closed(b, count) => refused(S::Reason::closed(), count, Some((b.lo.x, b.hi.x))),
+        Found::Spent(b, count) => refused(S::Reason::spent(), count, Some((b.lo.x, b.hi.x))),
+        Found::Lost(count) => refused(S::Reason::lost(), count, None),
     }
 }
 
@@ -169,12 +153,14 @@ pub fn with_found<A: Copy, W: Why>(found: Result<A, W>, x: f64, count: u32) -> O
 {
     match found {
         Ok(found) => Ok(Solution { x, count, found }),
-        Err(why) => Err(Refusal {
-            why,
-            count,
-            ends: None,
-        }),
+        Err(why) => refused(why, count, None),
     }
+}
+
+fn refused<A: Copy, W: Why>(why: W, count: u32, ends: Option<(f64, f64)>) -> Outcome<A, W>
+    ensures { answered W.number result ≡ refused_with (W.number why) count ends }
+{
+    Err(Refusal { why, count, ends })
 }
 
 // Whether a search may be given this limit of guesses: 1 to 100.
