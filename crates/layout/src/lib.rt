@@ -1,31 +1,22 @@
 // The one layout of a deck: the bytes of a list of cards, and cards as kinds and fields without spares.
 // docs/RULES.md, The deck and Writing a deck.
 //
-// Definitions and laws, contents and bodies as they are written, and the answer of every function that
-// writes a deck. Every function here is proved, the public ones are total, and the crate assumes nothing.
+// Definitions and laws, and contents and bodies as they are written. Every function here is proved, the
+// public ones are total, and the crate assumes nothing.
 #![tactic(auto)]
 
-ghost use Rattle.std.specs.Prelude.{◌≡◌, ◌≤◌, min, length};
+ghost use Rattle.std.specs.Prelude.{◌≡◌, ◌≤◌, length};
 ghost use Rattle.pieces.specs.Pieces.{put_in, end_in, Put};
 ghost use Rattle.card.specs.declared.Kind.TheVariants.{Solved};
-ghost use Rattle.card.specs.Fields.{problem_size};
 ghost use Rattle.card.specs.Made.{body_from};
 ghost use Rattle.contents.specs.Contents.{entry_at, most_cards, largest_deck};
 ghost use Rattle.layout.specs.Layout.{entry_for, entries_from, named_in, contents_for};
 
-use card::{Kind, Named};
-use ruling::Reason;
+use card::Kind;
 use version::Version;
 
 // The most bytes that the fields of a deck's cards have.
 pub const MOST_FIELDS: usize = contents::MOST_CARDS * card::FIELDS;
-
-// The length of the deck that was written, or why none was.
-#[derive(Clone, Copy)]
-pub enum Written {
-    Deck(usize),
-    Refused(Reason),
-}
 
 // Puts version, count and entries of a deck of cards with these kinds into out from the first byte on, as
 // far as out goes: the entries up to the first number that names no kind, and nothing for more than 256
@@ -49,14 +40,12 @@ fn put_entries(version: Version, kinds: &[u32], out: &mut [u8], start: usize) ->
 {
     let mut offset = contents::HEADER + contents::ENTRY * kinds.len();
     let mut end = start;
-    let mut i = 0;
-    while i < kinds.len() {
-        let Named::Kind(kind) = card::kind_of(kinds[i]) else {
+    for number in kinds {
+        let Some(kind) = card::kind_of(*number) else {
             return end;
         };
         end = put_entry(version, kind, offset, out, end);
         offset += kind.size(version);
-        i += 1;
     }
     end
 }
@@ -91,19 +80,8 @@ pub fn put_body(kind: Kind, fields: &[u8], out: &mut [u8], at: usize) -> usize
 fn put_spared(fields: &[u8], out: &mut [u8], at: usize) -> usize
     ensures { Put out.old at (body_from Solved fields.now) out.new result }
 {
-    let first = given(fields);
-    let problem = pieces::put(out, at, &fields[..first]);
+    let (question, rest) = fields.split_at(card::PROBLEM.min(fields.len()));
+    let problem = pieces::put(out, at, question);
     let spare = words::put_half(out, problem, 0);
-    pieces::put(out, spare, &fields[first..])
-}
-
-// The bytes of fields that are the problem's: 68, or as many as there are.
-fn given(fields: &[u8]) -> usize
-    ensures { result ≡ min problem_size (length fields.now) }
-{
-    if fields.len() < card::PROBLEM {
-        fields.len()
-    } else {
-        card::PROBLEM
-    }
+    pieces::put(out, spare, rest)
 }
