@@ -105,6 +105,7 @@ impl Why for Reason {
 
 impl Scaled {
     // T(z): the scaled time.
+    #[tactic(auto, unfolding(crate::specs::Arc::time_at))]
     pub fn time_at(self, z: f64) -> f64
         ensures { result ≡ time_at self z }
     {
@@ -114,6 +115,7 @@ impl Scaled {
     }
 
     // The velocity at r1 that z comes to, where every component is finite.
+    #[tactic(auto, unfolding(rows::specs::Rows::must, crate::specs::Arc::velocity_at))]
     pub fn velocity_at(self, z: f64) -> Result<Vector, Reason>
         ensures { checked reason_number result ≡ velocity_at self z }
     {
@@ -151,6 +153,7 @@ impl Sought for Scaled {
 }
 
 // C and S are U2 and U3 at x = 1 with alpha = z.
+#[tactic(auto, unfolding(crate::specs::Arc::shape_by))]
 fn shape_at(rho: f64, a: f64, z: f64) -> Shape
     ensures { result ≡ shape_at rho a z }
 {
@@ -170,6 +173,7 @@ fn root_or_nan(x: f64) -> f64
 }
 
 // ((d - u*F)/G)/f1, by component.
+#[tactic(auto, unfolding(crate::specs::Arc::departure_in))]
 fn leaving(o: Scaled, h: Shape) -> Vector
     ensures { result ≡ departure_in o h }
 {
