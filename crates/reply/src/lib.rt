@@ -6,10 +6,11 @@
 
 ghost use Rattle.std.specs.Prelude.{◌≡◌};
 ghost use Rattle.pieces.specs.Pieces.{put_in, end_in};
-ghost use Rattle.layout.specs.Written.{said};
+ghost use Rattle.rows.specs.Rows.{checked};
+ghost use Rattle.ruling.specs.Said.{reason_number};
 ghost use Rattle.reply.specs.Reply.{refused_line, page_after, end_after};
 
-use layout::Written;
+use ruling::Reason;
 
 // The line of a refused deck, `deck NUMBER`, from the page's first byte on. Answers where it ends.
 pub fn refused(number: u32, page: &mut [u8]) -> usize
@@ -22,12 +23,12 @@ pub fn refused(number: u32, page: &mut [u8]) -> usize
 }
 
 // Makes the page, in which a deck was written or not, what is replied. Answers where that ends.
-pub fn reply(answer: Written, page: &mut [u8]) -> usize
-    ensures value { result ≡ end_after (said answer) page.old }
-    ensures page_after { page.new ≡ page_after (said answer) page.old }
+pub fn reply(answer: Result<usize, Reason>, page: &mut [u8]) -> usize
+    ensures value { result ≡ end_after (checked reason_number answer) page.old }
+    ensures page_after { page.new ≡ page_after (checked reason_number answer) page.old }
 {
     match answer {
-        Written::Deck(size) => size,
-        Written::Refused(why) => refused(why.number(), page),
+        Ok(size) => size,
+        Err(why) => refused(why.number(), page),
     }
 }
