@@ -11,13 +11,15 @@ use lib.Dec.{ltb}
 use lib.ListN.{length, drop, get_or, drop_of_length-le}
 use lib.Seq.{drop-cons}
 use lib.Ieee.{Float, nan}
-use Rattle.std.specs.Prelude.{Option, Some, None}
+use Rattle.std.specs.Prelude.{Option, Some, None, Result, Ok, Err}
 use Rattle.std.specs.List.{position, position_from}
 use Rattle.std.proofs.lemmas.Iterator.Adapters.{position_from-zero}
 use Rattle.exact.specs.Numbers.{is_finite}
-use Rattle.rows.specs.Rows.{Checked, pass, refuse, must}
+use Rattle.rows.specs.Rows.{Checked, pass, refuse, must, checked}
 use Rattle.rows.proofs.Laws.{Refuses, passes, refuses}
+use Rattle.units.specs.declared.NotFinite.{NotFinite}
 use Rattle.units.specs.Units.{finite_from, by_place}
+use Rattle.units.specs.Said.{given_said}
 
 -- the number at this place is not finite, and every one before is
 pub record FirstNotFinite (list : List Float) (place : ℕ) : Type 0 where
@@ -120,3 +122,7 @@ renumbered number place (x ∷ rest) = go (renumbered number (place + 1) rest) (
 -- so what `given` answers says what the caller's own row comes to
 pub given_again : (number : ℕ → ℕ) (list : List Float) {a : Checked (Unit {0})} → a ≡ finite_from by_place 0 list → finite_from number 0 list ≡ again number a
 given_again number list e = renumbered number 0 list ∙ ap (again number) (sym e)
+
+pub given_as : (number : ℕ → ℕ) (list : List Float) (a : Result (Unit {0}) NotFinite) → given_said a ≡ finite_from by_place 0 list → finite_from number 0 list ≡ checked (λ why. number why.place) a
+given_as number list (Ok good) e = given_again number list e
+given_as number list (Err why) e = given_again number list e
