@@ -20,7 +20,8 @@ pub struct Functions {
     pub u3: f64,
 }
 
-// U0..U3 at x: worked at x/4 and doubled twice. None, since the series are refused.
+// U0..U3 at x: worked at x/4 and doubled twice. None where the series are refused.
+#[tactic(auto, unfolding(rows::specs::Rows::onward, crate::specs::Functions::functions_at))]
 pub fn at(x: f64, alpha: f64) -> Option<Functions>
     ensures { stated out_of_range result ≡ functions_at x alpha }
 {
@@ -31,7 +32,8 @@ pub fn at(x: f64, alpha: f64) -> Option<Functions>
     Some(doubled(alpha, doubled(alpha, quarter(y, alpha, c2, c3))))
 }
 
-// The same for a time, in which functions that are refused stand as NaNs.
+// The same for a time, in which functions that are refused stand as NaNs. Not made of `at`, so that the
+// steps stay in one line.
 pub fn at_or_nan(x: f64, alpha: f64) -> Functions
     ensures { result ≡ or_nans (functions_at x alpha) }
 {

@@ -55,7 +55,7 @@ pub fn refusal() -> u32
     OUT_OF_RANGE
 }
 
-// A series worked at z; none, since z is not in its range.
+// C2, worked at z; none where z is not in the range. It and C3 are `ranged` with a table each.
 pub fn c2(z: f64) -> Option<f64>
     ensures { stated out_of_range result ≡ series_of 2 z }
 {
@@ -78,21 +78,19 @@ pub fn both_or_nan(z: f64) -> Pair
     }
 }
 
+// The sum is worked in either case: a choice at the end keeps the steps in one line, and a time quick.
+#[tactic(auto, unfolding(rows::specs::Rows::must))]
 fn ranged(table: [f64; 12], z: f64) -> Option<f64>
     ensures { stated out_of_range result ≡ series_by table z }
 {
-    if !in_range(z) {
-        return None;
-    }
-    Some(horner(table, z))
+    in_range(z).then_some(horner(table, z))
 }
 
-// The sum is worked in either case: a choice at the end keeps the steps in one line, and a time quick.
+// A sum that is refused is NaN.
 fn or_nan(table: [f64; 12], z: f64) -> f64
     ensures { result ≡ sum_or_nan (series_by table z) }
 {
-    let sum = horner(table, z);
-    if in_range(z) { sum } else { 0.0 / 0.0 }
+    ranged(table, z).unwrap_or(0.0 / 0.0)
 }
 
 // |z| ≤ 4, which is false of NaN.
