@@ -8,9 +8,9 @@
 
 ghost use Rattle.std.specs.Prelude.{◌≡◌};
 ghost use Rattle.rows.specs.Rows.{checked};
-ghost use Rattle.units.specs.Units.{numbered};
+ghost use Rattle.units.specs.Units.{given_tested, numbered};
 ghost use Rattle.units.specs.Said.{measured_said};
-ghost use Rattle.conic.specs.Said.{reason_number};
+ghost use Rattle.conic.specs.Said.{input_number, reason_number};
 ghost use Rattle.conic.specs.TimeAndRatio.{time_at};
 ghost use Rattle.entry.specs.Entry.{inputs_tested, tested_by, scaled_by, scaled_of, far_end_of, bracketed_by, start_by, entry_of, angle_entry_of};
 
@@ -58,16 +58,22 @@ pub fn angle_entry(mu: f64, r: Vector, v: Vector, a: f64) -> Result<Scaled, Reas
 }
 
 // The tests that both begin with. The last number is the time or the angle.
+#[tactic(auto, unfolding(rows::specs::Rows::must, rows::specs::Rows::onward, crate::specs::Entry::inputs_tested))]
 fn first_tests(mu: f64, r: Vector, v: Vector, last: f64) -> Result<(), Reason>
     ensures { checked reason_number result ≡ inputs_tested mu r v last }
 {
-    if let Err(why) = units::given(mu, r, v, last) {
-        return Err(Reason::InputNotFinite(why.place));
-    }
+    all_given(mu, r, v, last)?;
     if !(0.0 < mu) {
         return Err(Reason::MuNotPositive);
     }
     Ok(())
+}
+
+// The numbers given are finite, or the first that is not.
+fn all_given(mu: f64, r: Vector, v: Vector, last: f64) -> Result<(), Reason>
+    ensures { checked reason_number result ≡ given_tested input_number mu r v last }
+{
+    units::given(mu, r, v, last).map_err(|why| Reason::InputNotFinite(why.place))
 }
 
 #[tactic(auto, unfolding(rows::specs::Rows::onward, crate::specs::Entry::scaled_of))]
@@ -147,7 +153,7 @@ fn far_end(alpha: f64) -> Result<f64, Reason>
     if size <= SIXTY_FOURTH {
         return Ok(FARTHEST);
     }
-    let k = root::root(size).or(Err(Reason::RootRefused))?;
+    let k = root::root(size).map_err(|_| Reason::RootRefused)?;
     Ok(REACH / k)
 }
 

@@ -38,7 +38,7 @@ fn turned(o: Scaled, a: f64) -> Result<State, Reason>
     ensures { checked reason_number result ≡ turned_state o a }
 {
     let half = universal::at(a / 2.0, 1.0).ok_or(Reason::NotFinite)?;
-    let k = root::root(o.p).or(Err(Reason::RootRefused))?;
+    let k = root::root(o.p).map_err(|_| Reason::RootRefused)?;
     reached(o, k, half.u1, half.u0)
 }
 
