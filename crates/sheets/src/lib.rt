@@ -12,23 +12,23 @@ ghost use Rattle.root.specs.Said.{said};
 ghost use Rattle.root.specs.Paper.{whole_of, after_turns, shown, sheet_of};
 ghost use Rattle.sheets.specs.Sheets.{Worked, refusal_line, root_line, turn_line, turn_lines, rounded_line, leading_up, working_lines};
 
-use root::{Answer, Sheet, Working};
+use root::{Reason, Sheet};
 
 // The weight of the next pair among the pairs to come.
 const PAIR: u64 = 0x10_0000_0000_0000;
 
 // `root WORD` or `refused NUMBER`, in out from index at on, as far as out goes. Answers where it ends.
-pub fn put_root(answer: Answer, out: &mut [u8], at: usize) -> usize
+pub fn put_root(answer: Result<f64, Reason>, out: &mut [u8], at: usize) -> usize
     ensures value { result ≡ end_in out.old at (root_line (said answer)) }
     ensures out_after { out.new ≡ put_in out.old at (root_line (said answer)) }
 {
     match answer {
-        Answer::Root(x) => {
+        Ok(x) => {
             let mut end = pieces::put(out, at, b"root");
             end = text::number(out, end, x);
             pieces::put(out, end, b"\n")
         }
-        Answer::Refused(why) => put_refusal(why.number(), out, at),
+        Err(why) => put_refusal(why.number(), out, at),
     }
 }
 
@@ -53,17 +53,16 @@ pub fn put_working(x: f64, out: &mut [u8], at: usize) -> usize
 }
 
 // What stands before the root's line: where x has a last sheet, the turns and the rounding.
-fn leading_up(x: f64, last: Working, out: &mut [u8], at: usize) -> usize
+fn leading_up(x: f64, last: Result<Option<Sheet>, Reason>, out: &mut [u8], at: usize) -> usize
     requires { shown last ≡ sheet_of x 54 }
     ensures { Put out.old at (leading_up (whole_of (steps binary64 x)) (shown last)) out.new result }
 {
     match last {
-        Working::Sheet(sheet) => {
+        Ok(Some(sheet)) => {
             let end = turns(x, out, at);
             rounded(sheet, out, end)
         }
-        Working::Zero => pieces::put(out, at, b""),
-        Working::Refused(_) => pieces::put(out, at, b""),
+        Ok(None) | Err(_) => pieces::put(out, at, b""),
     }
 }
 
@@ -73,10 +72,8 @@ fn turns(x: f64, out: &mut [u8], at: usize) -> usize
     ensures { Put out.old at (turn_lines (whole_of (steps binary64 x)) 54) out.new result }
 {
     let mut end = pieces::put(out, at, b"");
-    let mut n = 0u64;
-    while n < root::TURNS {
+    for n in 0..root::TURNS {
         end = turn(n + 1, sheet_of(x, n), sheet_of(x, n + 1), out, end);
-        n += 1;
     }
     end
 }
@@ -86,20 +83,10 @@ fn sheet_of(x: f64, n: u64) -> Sheet
     requires { (n ≤ 54) × Worked x }
     ensures { (result.digits < 2 ^ 54) × (result ≡ after_turns (whole_of (steps binary64 x)) n) }
 {
-    match root::sheet_after(x, n) {
-        Working::Sheet(sheet) => sheet,
-        Working::Zero => nothing(),
-        Working::Refused(_) => nothing(),
-    }
-}
-
-fn nothing() -> Sheet {
-    Sheet {
-        digits: 0,
-        remainder: 0,
-        pairs: 0,
-        left: 0,
-    }
+    let Ok(Some(sheet)) = root::sheet_after(x, n) else {
+        unreachable!()
+    };
+    sheet
 }
 
 // `turn N PAIR TRIAL DIGIT REMAINDER`.

@@ -2,12 +2,12 @@
 use Rattle.pieces.proofs.Puts.{puts, last, wrote, both}
 use Rattle.sheets.proofs.put_root.Goals as goal
 
-pub returns-in-Root : goal.returns-in-Root
-returns-in-Root c =
+pub returns-in-Ok : goal.returns-in-Ok
+returns-in-Ok c =
     let so = both (puts (wrote (c.put-end.ensures.value, c.put-end.ensures.out_after))
     (puts (wrote (c.number-end.ensures.value, c.number-end.ensures.out_after))
     (last (wrote (c.put.ensures.value, c.put.ensures.out_after))))) in
-    rw c.in-Root.is (record { value = so.0; out_after = so.1 })
+    rw c.in-Ok.is (record { value = so.0; out_after = so.1 })
 
-pub returns-in-Refused : goal.returns-in-Refused
-returns-in-Refused c = let so = both (wrote (c.put_refusal.ensures.value, c.put_refusal.ensures.out_after)) in rw (c.in-Refused.is, ← c.number.ensures) (record { value = so.0; out_after = so.1 })
+pub returns-in-Err : goal.returns-in-Err
+returns-in-Err c = let so = both (wrote (c.put_refusal.ensures.value, c.put_refusal.ensures.out_after)) in rw (c.in-Err.is, ← c.number.ensures) (record { value = so.0; out_after = so.1 })
