@@ -7,6 +7,7 @@ use Prim.Native.Nat.{ℕ, ◌-◌}
 use lib.Dec.{ltb}
 use lib.ListN.{get_or}
 use Rattle.coincidence.specs.Coincidence.{OneToOne}
+use Rattle.coincidence.proofs.Laws.{undone}
 use Rattle.rows.specs.Rows.{checked}
 use Rattle.rows.proofs.Laws.{checked_once}
 use Rattle.vectors.specs.declared.Vector.{Vector}
@@ -47,6 +48,10 @@ reason_is why.LimitReached = refl
 reason_is why.AngleTooNear = refl
 reason_is why.TooLittleTime = refl
 reason_is why.TooMuchTime = refl
+
+-- so a number names one reason
+pub reasons_once : OneToOne reason_number
+reasons_once = undone reason_number reason_of reason_is
 
 pub departs_once : OneToOne (checked {A = Vector} reason_number)
 departs_once = checked_once reason_number reason_of reason_is

@@ -9,6 +9,7 @@ use lib.Dec.{leb, le→leb}
 use lib.Ieee.Bits.{is_true}
 use lib.ListN.{get_or}
 use Rattle.coincidence.specs.Coincidence.{OneToOne}
+use Rattle.coincidence.proofs.Laws.{undone}
 use Rattle.conic.specs.declared.Reason.{Reason}
 use Rattle.conic.specs.declared.Reason.TheVariants as why
 use Rattle.conic.specs.declared.State.{State}
@@ -61,10 +62,14 @@ reason_is why.TooNearCentre = refl
 reason_is why.TowardsInfinity = refl
 reason_is why.RootRefused = refl
 
+-- so a number names one reason
+pub reasons_once : OneToOne reason_number
+reasons_once = undone reason_number reason_of reason_is
+
 -- ---- a prediction's answer, and an arrival
 
 pub said_once : OneToOne said
-said_once = answered_once reason_number reason_of reason_is
+said_once = answered_once reason_number reasons_once
 
 pub arrived_once : OneToOne (checked {A = State} reason_number)
 arrived_once = checked_once reason_number reason_of reason_is

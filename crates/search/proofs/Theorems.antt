@@ -1,15 +1,16 @@
--- What a step says can be undone, so `said` is one to one, and the contract of `next` has one answer. So can what an outcome says, where the
--- number of a reason names the reason (`answered_once`).
-use mathlib.Core.Path.{◌≡◌, refl, ap}
+-- What a step says can be undone, so `said` is one to one, and the contract of `next` has one answer. So can what an outcome says, where a
+-- number names one reason (`answered_once`): it says the same of no two.
+use mathlib.Core.Path.{◌≡◌, refl, sym, ap, ap₂}
+use mathlib.Core.Bool.{true≢false}
 use Prim.Native.Nat.{ℕ}
 use lib.Ieee.{Float}
-use Rattle.std.specs.Prelude.{Option, Some, None, Result, Ok, Err}
+use Rattle.std.specs.Prelude.{Option, Some, None, Ok, Err}
 use Rattle.coincidence.specs.Coincidence.{OneToOne}
 use Rattle.coincidence.proofs.Laws.{undone}
 use Rattle.search.specs.declared.Solution.{Solution}
 use Rattle.search.specs.declared.Refusal.{Refusal}
 use Rattle.search.specs.Said.{Try, guess, no_guess, said}
-use Rattle.search.specs.Answers.{Answer, solved, refused, refused_with_bracket, answered}
+use Rattle.search.specs.Answers.{answered}
 
 abbrev unsaid : Try → Option Float
 unsaid (guess x) = Some x
@@ -22,19 +23,36 @@ unsaid_is None = refl
 pub said_once : OneToOne said
 said_once = undone said unsaid unsaid_is
 
-module _ {A W : Type 0} (number : W → ℕ) (back : ℕ → W) (is : (why : W) → back (number why) ≡ why) where
-  abbrev unanswered : Answer A → Result (Solution A) (Refusal W)
-  unanswered (solved x n found) = Ok (record { x = x; count = n; found = found })
-  unanswered (refused k n) = Err (record { why = back k; count = n; ends = None })
-  unanswered (refused_with_bracket k n lo hi) = Err (record { why = back k; count = n; ends = Some (lo, hi) })
+abbrev solution : {A : Type 0} → Float → ℕ → A → Solution A
+solution x n found = record { x = x; count = n; found = found }
 
-  unanswered_is : (a : Result (Solution A) (Refusal W)) → unanswered (answered number a) ≡ a
-  unanswered_is (Ok s) = refl
-  unanswered_is (Err r) = of r.ends
+abbrev refusal : {W : Type 0} → W → ℕ → Option (Float × Float) → Refusal W
+refusal why n ends = record { why = why; count = n; ends = ends }
+
+same_solution : {A : Type 0} {x y : Float} {m n : ℕ} {a b : A} → x ≡ y → m ≡ n → a ≡ b → solution x m a ≡ solution y n b
+same_solution p q r = rw (p, q, r) refl
+
+same_refusal : {W : Type 0} {v w : W} {m n : ℕ} {a b : Option (Float × Float)} → v ≡ w → m ≡ n → a ≡ b → refusal v m a ≡ refusal w n b
+same_refusal p q r = rw (p, q, r) refl
+
+module _ {A W : Type 0} (number : W → ℕ) (named : OneToOne number) where
+  -- a refusal, by the number of its reason
+  refused_once : (v w : W) (m n : ℕ) (p q : Option (Float × Float)) → answered {A = A} number (Err (refusal v m p)) ≡ answered number (Err (refusal w n q)) → refusal v m p ≡ refusal w n q
+  refused_once v w m n None None e = same_refusal (named v w (cc)) (cc) refl
+  refused_once v w m n None (Some q) e = absurd (true≢false cc)
+  refused_once v w m n (Some p) None e = absurd (true≢false cc)
+  refused_once v w m n (Some p) (Some q) e = same_refusal (named v w (cc)) (cc) (same_ends p q (cc) (cc))
     where
-      of : (ends : Option (Float × Float)) → unanswered (answered number (Err (record { why = r.why; count = r.count; ends = ends }))) ≡ Err (record { why = r.why; count = r.count; ends = ends })
-      of None = ap (λ (why : W). Err (record { why = why; count = r.count; ends = None })) (is r.why)
-      of (Some e) = ap (λ (why : W). Err (record { why = why; count = r.count; ends = Some e })) (is r.why)
+      same_ends : (p q : Float × Float) → p.0 ≡ q.0 → p.1 ≡ q.1 → Some p ≡ Some q
+      same_ends (a, b) (x, y) f g = ap₂ (λ lo hi. Some (lo, hi)) f g
+
+  -- what is solved is no refusal
+  not_refused : (s : Solution A) (v : W) (n : ℕ) (ends : Option (Float × Float)) → answered {A = A} number (Ok s) ≡ answered number (Err (refusal v n ends)) → ⊥
+  not_refused s v n None e = true≢false cc
+  not_refused s v n (Some ends) e = true≢false cc
 
   pub answered_once : OneToOne (answered {A = A} number)
-  answered_once = undone (answered number) unanswered unanswered_is
+  answered_once (Ok s) (Ok t) e = ap Ok (same_solution (cc) (cc) (cc))
+  answered_once (Ok s) (Err t) e = absurd (not_refused s t.why t.count t.ends e)
+  answered_once (Err r) (Ok t) e = absurd (not_refused t r.why r.count r.ends (sym e))
+  answered_once (Err r) (Err t) e = ap Err (refused_once r.why t.why r.count t.count r.ends t.ends e)
