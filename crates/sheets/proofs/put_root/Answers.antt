@@ -10,4 +10,4 @@ returns-in-Ok c =
     rw c.in-Ok.is (record { value = so.0; out_after = so.1 })
 
 pub returns-in-Err : goal.returns-in-Err
-returns-in-Err c = let so = both (wrote (c.put_refusal.ensures.value, c.put_refusal.ensures.out_after)) in rw (c.in-Err.is, ← c.number.ensures) (record { value = so.0; out_after = so.1 })
+returns-in-Err c = rw (c.in-Err.is, ← c.number.ensures) (record { value = c.put_refusal.ensures.value; out_after = c.put_refusal.ensures.out_after })
