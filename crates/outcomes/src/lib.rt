@@ -3,14 +3,43 @@
 // Every function here is proved, the public ones are total, and the crate assumes nothing.
 #![tactic(auto)]
 
-ghost use Rattle.std.specs.Prelude.{◌≡◌};
+ghost use Rattle.std.specs.Prelude.{◌≡◌, ℕ, List};
 ghost use Rattle.pieces.specs.Pieces.{put_in, end_in, Put};
 ghost use Rattle.conic.specs.Said as conic;
 ghost use Rattle.lambert.specs.Said as lambert;
 ghost use Rattle.outcomes.specs.Outcomes as outcomes;
 
-use conic::Outcome;
+use conic::{Outcome, State};
+use search::Solution;
 use vectors::Vector;
+
+// What was found, as a solution's line shows it.
+trait Shown: Copy {
+    ghost shown: { Self → List ℕ };
+
+    fn put(self, out: &mut [u8], at: usize) -> usize
+        ensures { Put out.old at (shown self) out.new result };
+}
+
+// Position and velocity.
+impl Shown for State {
+    ghost shown = { outcomes.state };
+
+    fn put(self, out: &mut [u8], at: usize) -> usize {
+        let end = self.r.put(out, at);
+        self.v.put(out, end)
+    }
+}
+
+impl Shown for Vector {
+    ghost shown = { outcomes.vector };
+
+    fn put(self, out: &mut [u8], at: usize) -> usize {
+        let mut end = text::number(out, at, self.x);
+        end = text::number(out, end, self.y);
+        text::number(out, end, self.z)
+    }
+}
 
 // `solved COUNT X RX RY RZ VX VY VZ`, `refused NUMBER COUNT` or `refused NUMBER COUNT LO HI`, in out
 // from index at on, as far as out goes. Answers where it ends.
@@ -19,16 +48,8 @@ pub fn put(outcome: Outcome, out: &mut [u8], at: usize) -> usize
     ensures out_after { out.new ≡ put_in out.old at (outcomes.outcome_line (conic.said outcome)) }
 {
     match outcome {
-        Outcome::Solved { x, count, state } => {
-            let mut end = solution(x, count, out, at);
-            end = vector(state.r, out, end);
-            end = vector(state.v, out, end);
-            pieces::put(out, end, b"\n")
-        }
-        Outcome::Refused(why, count) => refused(why.number(), count, out, at),
-        Outcome::RefusedWithBracket(why, count, lo, hi) => {
-            named(why.number(), count, lo, hi, out, at)
-        }
+        Ok(s) => solved(s, out, at),
+        Err(r) => unsolved(r.why.number(), r.count, r.ends, out, at),
     }
 }
 
@@ -38,15 +59,29 @@ pub fn put_transfer(outcome: lambert::Outcome, out: &mut [u8], at: usize) -> usi
     ensures out_after { out.new ≡ put_in out.old at (outcomes.transfer_line (lambert.said outcome)) }
 {
     match outcome {
-        lambert::Outcome::Solved { z, count, velocity } => {
-            let mut end = solution(z, count, out, at);
-            end = vector(velocity, out, end);
-            pieces::put(out, end, b"\n")
-        }
-        lambert::Outcome::Refused(why, count) => refused(why.number(), count, out, at),
-        lambert::Outcome::RefusedWithBracket(why, count, lo, hi) => {
-            named(why.number(), count, lo, hi, out, at)
-        }
+        Ok(solution) => solved(solution, out, at),
+        Err(refusal) => unsolved(refusal.why.number(), refusal.count, refusal.ends, out, at),
+    }
+}
+
+// `solved COUNT X`, and what was found.
+fn solved<A: Shown>(solution: Solution<A>, out: &mut [u8], at: usize) -> usize
+    ensures { Put out.old at (outcomes.solved_line A.shown solution.x solution.count solution.found) out.new result }
+{
+    let mut end = pieces::put(out, at, b"solved");
+    end = text::count(out, end, solution.count);
+    end = text::number(out, end, solution.x);
+    end = solution.found.put(out, end);
+    pieces::put(out, end, b"\n")
+}
+
+// `refused NUMBER COUNT`, and `LO HI` where the bracket's ends are named.
+fn unsolved(number: u32, count: u32, ends: Option<(f64, f64)>, out: &mut [u8], at: usize) -> usize
+    ensures { Put out.old at (outcomes.unsolved_line number count ends) out.new result }
+{
+    match ends {
+        None => refused(number, count, out, at),
+        Some((lo, hi)) => named(number, count, lo, hi, out, at),
     }
 }
 
@@ -69,27 +104,10 @@ fn named(number: u32, count: u32, lo: f64, hi: f64, out: &mut [u8], at: usize) -
     pieces::put(out, end, b"\n")
 }
 
-// What a solution's line begins with.
-fn solution(x: f64, count: u32, out: &mut [u8], at: usize) -> usize
-    ensures { Put out.old at (outcomes.solution x count) out.new result }
-{
-    let mut end = pieces::put(out, at, b"solved");
-    end = text::count(out, end, count);
-    text::number(out, end, x)
-}
-
 fn refusal(number: u32, count: u32, out: &mut [u8], at: usize) -> usize
     ensures { Put out.old at (outcomes.refusal number count) out.new result }
 {
     let mut end = pieces::put(out, at, b"refused");
     end = text::count(out, end, number);
     text::count(out, end, count)
-}
-
-fn vector(v: Vector, out: &mut [u8], at: usize) -> usize
-    ensures { Put out.old at (outcomes.vector v) out.new result }
-{
-    let mut end = text::number(out, at, v.x);
-    end = text::number(out, end, v.y);
-    text::number(out, end, v.z)
 }
