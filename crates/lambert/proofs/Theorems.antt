@@ -3,8 +3,8 @@
 use Rattle.coincidence.specs.Coincidence.{OneToOne}
 use Rattle.search.proofs.Theorems.{answered_once}
 use Rattle.arc.specs.Said.{reason_number}
-use Rattle.arc.proofs.Theorems.{reason_of, reason_is}
+use Rattle.arc.proofs.Theorems.{reasons_once}
 use Rattle.lambert.specs.Said.{said}
 
 pub said_once : OneToOne said
-said_once = answered_once reason_number reason_of reason_is
+said_once = answered_once reason_number reasons_once
