@@ -7,13 +7,13 @@
 
 ghost use Rattle.std.specs.Prelude.{◌≡◌};
 ghost use Rattle.pieces.specs.Pieces.{put_in, end_in, Put};
+ghost use Rattle.rows.specs.Rows.{stated};
 ghost use Rattle.conic.specs.Said as conic;
-ghost use Rattle.card.specs.Said as card;
 ghost use Rattle.lambert.specs.Lambert.{answer_to};
 ghost use Rattle.outcomes.specs.Outcomes.{transfer_line};
 ghost use Rattle.line.specs.Line as line;
 
-use card::Asked;
+use arc::Transfer;
 use conic::{Outcome, Problem};
 use ruling::Fault;
 
@@ -65,12 +65,12 @@ fn turned(p: Problem) -> Outcome
     theta::theta(p.mu, p.r, p.v, p.dt)
 }
 
-// The line of a transfer; a way that is neither 0 nor 1 is refused.
-fn transfer_line(asked: Asked, out: &mut [u8], at: usize) -> usize
-    ensures { Put out.old at (transfer_line (answer_to (card.asked asked))) out.new result }
+// The line of a transfer; where there is none, its way being neither 0 nor 1, of the refusal.
+fn transfer_line(asked: Option<Transfer>, out: &mut [u8], at: usize) -> usize
+    ensures { Put out.old at (transfer_line (answer_to (stated 23 asked))) out.new result }
 {
     match asked {
-        Asked::Transfer(q) => outcomes::put_transfer(lambert::lambert(q), out, at),
-        Asked::UnknownWay => outcomes::refused(Fault::WordNotAllowed.number(), 0, out, at),
+        Some(q) => outcomes::put_transfer(lambert::lambert(q), out, at),
+        None => outcomes::refused(Fault::WordNotAllowed.number(), 0, out, at),
     }
 }
