@@ -2,7 +2,7 @@
 use mathlib.Core.Path.{refl}
 use Rattle.coincidence.specs.Coincidence.{Fixes}
 use Rattle.coincidence.proofs.Laws.{one_result, one_answer}
-use Rattle.units.proofs.Theorems.{given_once, measured_once}
+use Rattle.units.proofs.Theorems.{given_once, length_once, unit_once}
 use Rattle.units.proofs.UnmeasuredFromRootReason.from.Reads as from-reason
 use Rattle.units.proofs.UnmeasuredFromRootReason.from.Kinds as from-reason-kinds
 use Rattle.units.proofs.given.Reads as given
@@ -19,7 +19,7 @@ pub given_fixes : Fixes 0 given-kinds.ps given-kinds.r given.Learnt
 given_fixes κs a x y v w p q = (one_answer given_once x y p q, refl)
 
 pub radius_fixes : Fixes 0 radius-kinds.ps radius-kinds.r radius.Learnt
-radius_fixes κs a x y v w p q = (one_answer measured_once x y p q, refl)
+radius_fixes κs a x y v w p q = (one_answer length_once x y p q, refl)
 
 pub time_unit_fixes : Fixes 0 time-unit-kinds.ps time-unit-kinds.r time-unit.Learnt
-time_unit_fixes κs a x y v w p q = (one_answer measured_once x y p q, refl)
+time_unit_fixes κs a x y v w p q = (one_answer unit_once x y p q, refl)

@@ -106,7 +106,7 @@ by_first list = ap is_first (position_from-zero (λ x. not (is_finite x)) list) 
 
 -- ---- the same row with other numbers
 
-abbrev pub again : (ℕ → ℕ) → Checked (Unit {0}) → Checked (Unit {0})
+abbrev again : (ℕ → ℕ) → Checked (Unit {0}) → Checked (Unit {0})
 again number (pass good) = pass tt
 again number (refuse place) = refuse (number place)
 
@@ -120,9 +120,6 @@ renumbered number place (x ∷ rest) = go (renumbered number (place + 1) rest) (
     go others false = refl
 
 -- so what `given` answers says what the caller's own row comes to
-pub given_again : (number : ℕ → ℕ) (list : List Float) {a : Checked (Unit {0})} → a ≡ finite_from by_place 0 list → finite_from number 0 list ≡ again number a
-given_again number list e = renumbered number 0 list ∙ ap (again number) (sym e)
-
-pub given_as : (number : ℕ → ℕ) (list : List Float) (a : Result (Unit {0}) NotFinite) → given_said a ≡ finite_from by_place 0 list → finite_from number 0 list ≡ checked (λ why. number why.place) a
-given_as number list (Ok good) e = given_again number list e
-given_as number list (Err why) e = given_again number list e
+pub given_again : (number : ℕ → ℕ) (list : List Float) (a : Result (Unit {0}) NotFinite) → given_said a ≡ finite_from by_place 0 list → finite_from number 0 list ≡ checked (λ why. number why.place) a
+given_again number list (Ok good) e = renumbered number 0 list ∙ ap (again number) (sym e)
+given_again number list (Err why) e = renumbered number 0 list ∙ ap (again number) (sym e)

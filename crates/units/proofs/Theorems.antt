@@ -1,6 +1,7 @@
 -- What an answer says can be undone, so `given_said` and `measured_said` are one to one, and the contracts through them have one answer.
 use mathlib.Core.Path.{◌≡◌, refl}
 use Prim.Native.Nat.{ℕ}
+use lib.Ieee.{Float}
 use Rattle.std.specs.Prelude.{Result, Ok, Err}
 use Rattle.coincidence.specs.Coincidence.{OneToOne}
 use Rattle.coincidence.proofs.Laws.{undone}
@@ -27,5 +28,11 @@ measured_is (Ok x) = refl
 measured_is (Err Unusable) = refl
 measured_is (Err RootRefused) = refl
 
-pub measured_once : {A : Type 0} → OneToOne (measured_said {A = A})
+measured_once : {A : Type 0} → OneToOne (measured_said {A = A})
 measured_once = undone measured_said unmeasured measured_is
+
+pub length_once : OneToOne (measured_said {A = Float})
+length_once = measured_once
+
+pub unit_once : OneToOne (measured_said {A = Float × Float})
+unit_once = measured_once
