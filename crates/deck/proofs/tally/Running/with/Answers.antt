@@ -1,6 +1,6 @@
--- `tally::with` meets its contract: each verdict is one case of the definition.
+-- `tally::Running::with` meets its contract: each verdict is one case of the definition.
 use mathlib.Core.Path.{refl}
-use Rattle.deck.proofs.tally.with.Goals as goal
+use Rattle.deck.proofs.tally.Running.with.Goals as goal
 
 pub returns-in-Solved : goal.returns-in-Solved
 returns-in-Solved c = rw (c.larger_of.ensures, c.in-Solved.is) refl
