@@ -4,8 +4,10 @@
 // Every function here is proved, the public ones are total, and the crate assumes nothing.
 #![tactic(auto)]
 
-ghost use Rattle.std.specs.Prelude.{◌≡◌, ◌≤◌, min, length};
+ghost use Rattle.std.specs.Prelude.{◌≡◌, ◌≤◌, ◌<◌, length};
 ghost use Rattle.pieces.specs.Pieces.{Put, handed_in};
+ghost use Rattle.text.specs.Text.{text};
+ghost use Rattle.line.specs.Line.{width_of, line_of};
 ghost use Rattle.lines.specs.Lines.{lines_of, block_of, block_records, block_bytes, most_text};
 
 use line::Question;
@@ -42,19 +44,11 @@ pub fn lines(asked: Question, s: &[u8], out: &mut [u8]) -> usize
     ensures value { result ≡ length (lines_of asked (block_of asked s.now)) }
     ensures out_after { out.new ≡ handed_in (lines_of asked (block_of asked s.now)) out.old }
 {
-    let size = first(asked, s);
+    let size = block(asked).min(s.len());
     if out.len() < ROOM {
         return in_little_room(asked, &s[..size], out);
     }
     write(asked, &s[..size], out)
-}
-
-// The bytes of s that are answered: a block, or as many as there are.
-fn first(asked: Question, s: &[u8]) -> usize
-    ensures { result ≡ min (block_bytes asked) (length s.now) }
-{
-    let size = block(asked);
-    if s.len() < size { s.len() } else { size }
 }
 
 // Whether the lines fit is only known once they are made.
@@ -79,16 +73,21 @@ fn blank() -> [u8; ROOM]
 fn write(asked: Question, s: &[u8], page: &mut [u8]) -> usize
     ensures { Put page.old 0 (lines_of asked s.now) page.new result }
 {
-    let size = line::width(asked);
-    let mut at = 0;
     let mut end = 0;
-    while size <= s.len() - at {
-        let next = at + size;
-        end = line::line(asked, &s[at..next], page, end);
-        at = next;
-    }
-    if at < s.len() {
-        return pieces::put(page, end, b"short\n");
+    for part in s.chunks(line::width(asked)) {
+        end = put(asked, part, page, end);
     }
     end
+}
+
+// What is written for one record, or `short` where it is cut off.
+fn put(asked: Question, part: &[u8], page: &mut [u8], at: usize) -> usize
+    ensures cut_off { length part.now < width_of asked → Put page.old at (text "short\n") page.new result }
+    ensures whole { width_of asked ≤ length part.now → Put page.old at (line_of asked part.now) page.new result }
+{
+    if part.len() < line::width(asked) {
+        pieces::put(page, at, b"short\n")
+    } else {
+        line::line(asked, part, page, at)
+    }
 }
