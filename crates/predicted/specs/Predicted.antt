@@ -11,10 +11,7 @@ use Rattle.card.specs.declared.Kind.{Kind}
 use Rattle.card.specs.Fields as card
 use Rattle.card.specs.Fields.{problem_size, given_size, problem_of}
 use Rattle.card.specs.Made.{body_of, answer_for, card_for}
-use Rattle.ruling.specs.Said.{reason_number}
 use Rattle.predicted.specs.declared.Card.{Card}
-use Rattle.predicted.specs.declared.Placed.{Placed}
-use Rattle.predicted.specs.declared.Placed.TheVariants as place
 
 -- the card of a problem, from its bytes, behind which object and epoch may stand: Kepler is run on it
 abbrev pub card_of : (given : List ℕ) → card.Card
@@ -34,11 +31,6 @@ placed_in out at m = onward m (λ c. pass (c.kind, end_in out at c.body))
 abbrev pub with_body : (out : List ℕ) (at : ℕ) → Checked card.Card → List ℕ
 with_body out at (pass c) = put_in out at c.body
 with_body out at (refuse k) = out
-
--- an answer's kind and end, or the number of its refusal
-abbrev pub said : Placed → Checked (Kind × ℕ)
-said (place.Card kind end) = pass (kind, end)
-said (place.Refused why) = refuse (reason_number why)
 
 -- the words of a problem's eight numbers
 abbrev pub words_in : (given : List ℕ) → List ℕ

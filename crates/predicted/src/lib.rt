@@ -5,6 +5,8 @@
 #![tactic(auto)]
 
 ghost use Rattle.std.specs.Prelude.{◌≡◌, ◌≤◌, length};
+ghost use Rattle.rows.specs.Rows.{checked};
+ghost use Rattle.ruling.specs.Said.{reason_number};
 ghost use Rattle.pieces.specs.Pieces.{Put};
 ghost use Rattle.words.specs.Words.{words_bytes};
 ghost use Rattle.version.specs.Version.{largest_tag};
@@ -12,7 +14,7 @@ ghost use Rattle.conic.specs.Said as conic;
 ghost use Rattle.kepler.specs.Kepler.{kepler_of};
 ghost use Rattle.card.specs.Fields.{problem_size, problem_of};
 ghost use Rattle.card.specs.Made.{solved_answer, kind_for, answer_for};
-ghost use Rattle.predicted.specs.Predicted.{first_card, placed_in, with_body, said, words_in, given_in, fields_held, body_held};
+ghost use Rattle.predicted.specs.Predicted.{first_card, placed_in, with_body, words_in, given_in, fields_held, body_held};
 
 use card::Kind;
 use conic::{Outcome, Problem, State};
@@ -28,31 +30,26 @@ pub struct Card {
     outcome: Outcome,
 }
 
-// The kind of a problem's card and where its body ends, or why there is none.
-#[derive(Clone, Copy)]
-pub enum Placed {
-    Card(Kind, usize),
-    Refused(Reason),
-}
-
 // Predicts the problem with which the bytes begin and puts the body of its card in a deck of this version
 // into out from index at on, as far as out goes. Object and epoch stand behind the problem where the
-// version has them, and go to the card as they are.
-pub fn put(version: Version, problems: &[u8], out: &mut [u8], at: usize) -> Placed
-    ensures result_value { said result ≡ placed_in out.old at (first_card version problems.now) }
+// version has them, and go to the card as they are. Answers the card's kind and where its body ends.
+pub fn put(
+    version: Version,
+    problems: &[u8],
+    out: &mut [u8],
+    at: usize,
+) -> Result<(Kind, usize), Reason>
+    ensures result_value { checked reason_number result ≡ placed_in out.old at (first_card version problems.now) }
     ensures out_after { out.new ≡ with_body out.old at (first_card version problems.now) }
 {
     let size = card::given_size(version);
     if problems.len() < size {
-        return Placed::Refused(Reason::BytesDoNotFit);
+        return Err(Reason::BytesDoNotFit);
     }
     let made = answered(&problems[..card::PROBLEM]);
-    let outcome = made.outcome;
-    let kind = kind_of(outcome);
-    Placed::Card(
-        kind,
-        put_body(made, &problems[card::PROBLEM..size], kind, out, at),
-    )
+    let kind = kind_of(made.outcome);
+    let end = put_body(made, &problems[card::PROBLEM..size], kind, out, at);
+    Ok((kind, end))
 }
 
 // The body of a card.
@@ -74,7 +71,7 @@ fn answered(given: &[u8]) -> Card
     let problem = card::problem(given);
     Card {
         given: words_of(given),
-        problem: problem,
+        problem,
         outcome: kepler::kepler(problem),
     }
 }
@@ -99,13 +96,8 @@ fn kind_of(outcome: Outcome) -> Kind
     ensures { result ≡ kind_for (conic.said outcome) }
 {
     match outcome {
-        Outcome::Solved {
-            x: _,
-            count: _,
-            state: _,
-        } => Kind::Solved,
-        Outcome::Refused(_, _) => Kind::Refused,
-        Outcome::RefusedWithBracket(_, _, _, _) => Kind::Refused,
+        Ok(_) => Kind::Solved,
+        Err(_) => Kind::Refused,
     }
 }
 
@@ -114,12 +106,10 @@ fn put_card(made: Card, tag: &[u8], fields: &mut [u8], at: usize) -> usize
     requires { at ≤ length fields.old }
     ensures { Put fields.old at (fields_held made tag.now) fields.new result }
 {
-    let given = made.given;
-    let outcome = made.outcome;
-    let numbers = put_words(fields, at, &given);
+    let numbers = put_words(fields, at, &made.given);
     let limit = words::put_half(fields, numbers, made.problem.limit);
     let end = pieces::put(fields, limit, tag);
-    put_answer(outcome, fields, end)
+    put_answer(made.outcome, fields, end)
 }
 
 // x, position and velocity, or the refusal's number.
@@ -128,9 +118,8 @@ fn put_answer(outcome: Outcome, fields: &mut [u8], at: usize) -> usize
     ensures { Put fields.old at (answer_for (conic.said outcome)) fields.new result }
 {
     match outcome {
-        Outcome::Solved { x, count: _, state } => put_solved(x, state, fields, at),
-        Outcome::Refused(why, _) => words::put_half(fields, at, why.number()),
-        Outcome::RefusedWithBracket(why, _, _, _) => words::put_half(fields, at, why.number()),
+        Ok(solution) => put_solved(solution.x, solution.found, fields, at),
+        Err(refusal) => words::put_half(fields, at, refusal.why.number()),
     }
 }
 
@@ -156,10 +145,8 @@ fn put_words(out: &mut [u8], at: usize, list: &[u64]) -> usize
     ensures { Put out.old at (words_bytes list.now) out.new result }
 {
     let mut end = at;
-    let mut i = 0;
-    while i < list.len() {
-        end = words::put_word(out, end, list[i]);
-        i += 1;
+    for word in list {
+        end = words::put_word(out, end, *word);
     }
     end
 }
