@@ -1,11 +1,13 @@
 -- `copier::copy` meets its contract: the two lists have room for any deck, so what is refused is the deck, and what is written are its cards with
 -- their spares cleared.
-use mathlib.Core.Path.{ap, ap₂, ◌∙◌}
+use mathlib.Core.Path.{sym, ap, ap₂, ◌∙◌}
 use Prim.Native.Nat.{ℕ, ◌*◌}
 use native.Mathlib.Omega.{arith}
 use lib.ListN.{length, take, replicate}
 use Rattle.card.specs.Fields.{largest_fields}
 use Rattle.contents.specs.Contents.{most_cards}
+use Rattle.rows.specs.Rows.{checked}
+use Rattle.ruling.specs.Said.{reason_number}
 use Rattle.layout.specs.Packed.{finished_deck}
 use Rattle.layout.specs.Written.{length_for, buffer_after}
 use Rattle.layout.proofs.Refusals.{passed_on}
@@ -15,7 +17,7 @@ use Rattle.copier.proofs.copy.Goals as goal
 use Rattle.copier.proofs.copy.Goals.{In_ok-version}
 
 pub returns-in_err-version : goal.returns-in_err-version
-returns-in_err-version c = let both = refused_writes c.args.buffer.now (copy_refused c.args.deck.now c.in_err-version.ensures.result_value (omega arith) (omega arith)) in
+returns-in_err-version c = let both = refused_writes c.args.buffer.now (copy_refused c.args.deck.now (sym (ap (checked reason_number) c.in_err-version.was) ∙ c.take.ensures.result_value) (omega arith) (omega arith)) in
     record { result_value = passed_on c.from_residual.result _ c.from_residual.ensures.1 ∙ both.0; buffer_after = both.1 }
 
 -- what was taken
