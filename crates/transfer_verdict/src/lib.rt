@@ -31,7 +31,11 @@ fn tested(question: &[u8], answer: &[u8]) -> Result<f64, u32>
     ensures { by_number result ≡ transfer_card (parts question.now answer.now) }
 {
     let q = card::transfer(question).ok_or(Fault::WordNotAllowed.number())?;
-    let (o, b) = arc_entry::entry(q).map_err(Reason::number)?;
+    // let .. else, and no `?`: docs/RULES.md, The shape of each place 4.
+    let start = arc_entry::entry(q).map_err(Reason::number);
+    let Ok((o, b)) = start else {
+        return Err(start.err().unwrap_or(0));
+    };
     at_z(answer, o, b)
 }
 

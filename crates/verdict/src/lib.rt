@@ -43,7 +43,11 @@ fn solved(question: &[u8], answer: &[u8]) -> Result<f64, u32>
     if words::half(question, SPARE) != 0 {
         return Err(Fault::WordNotAllowed.number());
     }
-    let (o, b) = entry::entry(card::problem(question)).map_err(Reason::number)?;
+    // let .. else, and no `?`: docs/RULES.md, The shape of each place 4.
+    let start = entry::entry(card::problem(question)).map_err(Reason::number);
+    let Ok((o, b)) = start else {
+        return Err(start.err().unwrap_or(0));
+    };
     at_x(answer, o, b)
 }
 
