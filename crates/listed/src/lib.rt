@@ -26,13 +26,13 @@ pub fn totals_line(totals: Totals, page: &mut [u8], at: usize) -> usize
 }
 
 // Mean and worst, in seconds, or that there is neither.
-pub fn residual_lines(residuals: Residuals, page: &mut [u8], at: usize) -> usize
+pub fn residual_lines(residuals: Option<Residuals>, page: &mut [u8], at: usize) -> usize
     ensures value { result ≡ end_in page.old at (residual_lines (told residuals)) }
     ensures page_after { page.new ≡ put_in page.old at (residual_lines (told residuals)) }
 {
     match residuals {
-        Residuals::Absent => pieces::put(page, at, b"mean none\nworst none\n"),
-        Residuals::Known { mean, worst } => {
+        None => pieces::put(page, at, b"mean none\nworst none\n"),
+        Some(Residuals { mean, worst }) => {
             let mut end = pieces::put(page, at, b"mean");
             end = text::number(page, end, mean);
             end = pieces::put(page, end, b"\nworst");
