@@ -13,9 +13,7 @@ ghost use Rattle.contents.specs.Contents.{Deck, version_word, deck_in};
 ghost use Rattle.listing.specs.Listing as listing;
 ghost use Rattle.listing.specs.Judged.{Judged};
 
-use card::Named;
-use deck::Answer;
-use version::{Stated, Version};
+use version::Version;
 
 // The bytes of the longest listing.
 pub const ROOM: usize = 13279;
@@ -25,16 +23,9 @@ pub fn listing(deck: &[u8], out: &mut [u8]) -> usize
     ensures value { result ≡ length (listing.listing_of deck.now) }
     ensures out_after { out.new ≡ handed_in (listing.listing_of deck.now) out.old }
 {
-    let mut page = blank();
+    let mut page = [0; ROOM];
     let end = write(deck, &mut page);
     pieces::hand(&page[..end], out)
-}
-
-// A page with room for any listing.
-fn blank() -> [u8; ROOM]
-    ensures { listing.longest_listing ≡ length result }
-{
-    [0; ROOM]
 }
 
 // The listing, from the page's first byte on.
@@ -43,8 +34,8 @@ fn write(deck: &[u8], page: &mut [u8]) -> usize
 {
     let mut verdicts = [0u32; contents::MOST_CARDS];
     match deck::check(deck, &mut verdicts) {
-        Answer::Refused(why) => reply::refused(why.number(), page),
-        Answer::Accepted(totals, residuals) => {
+        Err(why) => reply::refused(why.number(), page),
+        Ok((totals, residuals)) => {
             let count = totals.solved + totals.refused + totals.rejected;
             let shown = cards(deck, &verdicts, count, page);
             let totalled = listed::totals_line(totals, page, shown);
@@ -58,7 +49,7 @@ fn cards(deck: &[u8], verdicts: &[u32], count: u32, page: &mut [u8]) -> usize
     requires { Judged deck.now verdicts.now count }
     ensures { (d : Deck) → deck_in deck.now ≡ pass d → Put page.old 0 (listing.card_lines d.version 1 d.cards) page.new result }
 {
-    let Stated::Version(version) = version::named(words::half(deck, 0)) else {
+    let Some(version) = version::named(words::half(deck, 0)) else {
         return 0;
     };
     card_lines(deck, version, verdicts, count, page)
@@ -69,19 +60,16 @@ fn card_lines(deck: &[u8], version: Version, verdicts: &[u32], count: u32, page:
     requires { Judged deck.now verdicts.now count × (version_of (version_word deck.now) ≡ pass version) }
     ensures { (d : Deck) → deck_in deck.now ≡ pass d → Put page.old 0 (listing.card_lines version 1 d.cards) page.new result }
 {
-    let mut i = 0u32;
     let mut at = contents::HEADER + contents::ENTRY * count as usize;
     let mut end = 0;
-    while i < count {
-        let place = i as usize;
-        let Named::Kind(kind) = contents::kind_at(deck, i) else {
+    for i in 0..count {
+        let Some(kind) = contents::kind_at(deck, i) else {
             return end;
         };
         let next = at + kind.size(version);
         let tag = card::tag(version, kind, &deck[at..next]);
-        end = item::line(i + 1, kind, tag, verdicts[place], page, end);
+        end = item::line(i + 1, kind, tag, verdicts[i as usize], page, end);
         at = next;
-        i += 1;
     }
     end
 }
