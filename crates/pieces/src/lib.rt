@@ -5,17 +5,24 @@
 #![tactic(auto)]
 
 ghost use Rattle.std.specs.Prelude.{◌≡◌, length};
-ghost use Rattle.pieces.specs.Pieces.{put_in, end_in, handed_in};
+ghost use Rattle.pieces.specs.Pieces.{handed_in};
+ghost use Rattle.pieces.specs.Page.{written};
 
-// Puts s into out from index at on, as far as out goes. Answers where it ends.
-pub fn put(out: &mut [u8], at: usize, s: &[u8]) -> usize
-    ensures value { result ≡ end_in out.old at s.now }
-    ensures out_after { out.new ≡ put_in out.old at s.now }
+// A lent buffer, and where the next piece begins in it.
+#[derive(Drop)]
+pub struct Page<'a> {
+    pub bytes: &'a mut [u8],
+    pub at: usize,
+}
+
+// Puts s into a page, as far as the page goes.
+pub fn put(page: &mut Page, s: &[u8])
+    ensures { page.new ≡ written page.old s.now }
 {
-    let start = at.min(out.len());
-    let n = s.len().min(out.len() - start);
-    out[start..start + n].copy_from_slice(&s[..n]);
-    start + n
+    let start = page.at.min(page.bytes.len());
+    let n = s.len().min(page.bytes.len() - start);
+    page.bytes[start..start + n].copy_from_slice(&s[..n]);
+    page.at = start + n;
 }
 
 // Hands a whole over in out, if out has room for it. Answers how long the whole is.
