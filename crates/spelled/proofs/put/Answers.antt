@@ -8,7 +8,9 @@ use mir.Syntax.{w64}
 use borrow.Rule.Slice.PartMut.{put_mid}
 use Rattle.std.specs.Int.{to_le_bytes}
 use Rattle.pieces.specs.Pieces.{Put}
-use Rattle.pieces.proofs.Puts.{over, at_once, renamed, wrote, both}
+use Rattle.pieces.specs.Page.{written}
+use Rattle.pieces.proofs.Puts.{over, at_once}
+use Rattle.pieces.proofs.Pages.{fields}
 use Rattle.spelled.specs.Spelled.{bytes_of}
 use Rattle.spelled.proofs.Length.{length_bytes}
 use Rattle.spelled.proofs.Lowest.{lowest}
@@ -24,8 +26,8 @@ in_room out at n w {k} {piece} h b e =
     let put = at_once out at (bytes_of (min n 8) w) (omega arith) in
     rw (e, over out at k (bytes_of (min n 8) w) h long, long) put
 
-pub returns-then-out-k : goal.returns-then-out-k
-returns-then-out-k c = let both = both (renamed (asked c.args.k c.args.w c.min-k.ensures c.to_le_bytes.ensures) (wrote (c.put.ensures.value, c.put.ensures.out_after))) in record { value = both.0; out_after = both.1 }
+pub returns-then-page-k : goal.returns-then-page-k
+returns-then-page-k c = rw c.put.ensures (ap (written c.args.page.now) (asked c.args.k c.args.w c.min-k.ensures c.to_le_bytes.ensures))
 
 pub returns : goal.returns
-returns c = let both = both (in_room c.args.out.now c.args.at c.args.k c.args.w (omega arith) c.min-k.ensures (c.copy_from_slice.ensures.after ∙ asked c.args.k c.args.w c.min-k.ensures c.to_le_bytes-2.ensures)) in record { value = both.0; out_after = both.1 }
+returns c = fields (in_room c.args.page.now.bytes.now c.args.page.now.at c.args.k c.args.w (omega arith) c.min-k.ensures (c.copy_from_slice.ensures.after ∙ asked c.args.k c.args.w c.min-k.ensures c.to_le_bytes-2.ensures))
