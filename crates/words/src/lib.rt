@@ -5,9 +5,11 @@
 
 ghost use Rattle.std.specs.Prelude.{◌≡◌, ◌+◌, ◌≤◌, ◌<◌, length, take, drop};
 ghost use Rattle.std.specs.Option.{MatchOption};
-ghost use Rattle.pieces.specs.Pieces.{put_in, end_in};
+ghost use Rattle.pieces.specs.Page.{written};
 ghost use Rattle.spelled.specs.Spelled.{bytes_of};
 ghost use Rattle.words.specs.Words.{value_at};
+
+use pieces::Page;
 
 // The eight bytes of s from index at on as a word, the lowest first; 0 where s ends before.
 pub fn word(s: &[u8], at: usize) -> u64
@@ -30,19 +32,16 @@ fn part<const N: usize>(s: &[u8], at: usize) -> Option<[u8; N]>
     s.get(at..)?.first_chunk().copied()
 }
 
-// Puts the eight bytes of w into out from index at on, the lowest first, as far as out goes. Answers
-// where they end.
-pub fn put_word(out: &mut [u8], at: usize, w: u64) -> usize
-    ensures value { result ≡ end_in out.old at (bytes_of 8 w) }
-    ensures out_after { out.new ≡ put_in out.old at (bytes_of 8 w) }
+// Puts the eight bytes of w into a page, the lowest first, as far as it goes.
+pub fn put_word(page: &mut Page, w: u64)
+    ensures { page.new ≡ written page.old (bytes_of 8 w) }
 {
-    spelled::put(out, at, w, 8)
+    spelled::put(page, w, 8);
 }
 
 // The same for the four bytes of w.
-pub fn put_half(out: &mut [u8], at: usize, w: u32) -> usize
-    ensures value { result ≡ end_in out.old at (bytes_of 4 w) }
-    ensures out_after { out.new ≡ put_in out.old at (bytes_of 4 w) }
+pub fn put_half(page: &mut Page, w: u32)
+    ensures { page.new ≡ written page.old (bytes_of 4 w) }
 {
-    spelled::put(out, at, w as u64, 4)
+    spelled::put(page, w as u64, 4);
 }
