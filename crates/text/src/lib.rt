@@ -5,51 +5,50 @@
 #![tactic(auto)]
 
 ghost use Rattle.std.specs.Prelude.{◌≡◌, ◌<◌, ◌∷◌};
-ghost use Rattle.pieces.specs.Pieces.{put_in, end_in};
+ghost use Rattle.pieces.specs.Page.{written};
 ghost use Rattle.text.specs.Text as text;
 
 use itoa::{Buffer, Integer};
+use pieces::Page;
 
 // A space, and n in decimal.
-pub fn count(out: &mut [u8], at: usize, n: u32) -> usize
-    ensures value { result ≡ end_in out.old at (text.count n) }
-    ensures out_after { out.new ≡ put_in out.old at (text.count n) }
+#[tactic(auto, using(crate::proofs::Digits::counted))]
+pub fn count(page: &mut Page, n: u32)
+    ensures { page.new ≡ written page.old (text.count n) }
 {
-    decimal::<u32>(out, at, n)
+    decimal::<u32>(page, n);
 }
 
 // A space, and n in decimal.
-pub fn whole(out: &mut [u8], at: usize, n: u64) -> usize
-    ensures value { result ≡ end_in out.old at (text.whole n) }
-    ensures out_after { out.new ≡ put_in out.old at (text.whole n) }
+#[tactic(auto, using(crate::proofs::Digits::printed))]
+pub fn whole(page: &mut Page, n: u64)
+    ensures { page.new ≡ written page.old (text.whole n) }
 {
-    decimal::<u64>(out, at, n)
+    decimal::<u64>(page, n);
 }
 
 // A space, and n in decimal, with `-` before the digits where it is negative.
-pub fn signed(out: &mut [u8], at: usize, n: i64) -> usize
-    ensures value { result ≡ end_in out.old at (text.signed n) }
-    ensures out_after { out.new ≡ put_in out.old at (text.signed n) }
+pub fn signed(page: &mut Page, n: i64)
+    ensures { page.new ≡ written page.old (text.signed n) }
 {
-    decimal::<i64>(out, at, n)
+    decimal::<i64>(page, n);
 }
 
 // A space, and the text of n.
-fn decimal<N: Integer>(out: &mut [u8], at: usize, n: N) -> usize
-    ensures value { result ≡ end_in out.old at (32 ∷ N.text n) }
-    ensures out_after { out.new ≡ put_in out.old at (32 ∷ N.text n) }
+#[tactic(auto, using(pieces::proofs::Pages::pages))]
+fn decimal<N: Integer>(page: &mut Page, n: N)
+    ensures { page.new ≡ written page.old (32 ∷ N.text n) }
 {
-    let end = pieces::put(out, at, b" ");
-    pieces::put(out, end, Buffer::new().format(n).as_bytes())
+    pieces::put(page, b" ");
+    pieces::put(page, Buffer::new().format(n).as_bytes());
 }
 
 // A space, and x as the 16 hex digits of its word.
-pub fn number(out: &mut [u8], at: usize, x: f64) -> usize
-    ensures value { result ≡ end_in out.old at (text.number x) }
-    ensures out_after { out.new ≡ put_in out.old at (text.number x) }
+pub fn number(page: &mut Page, x: f64)
+    ensures { page.new ≡ written page.old (text.number x) }
 {
     let digits = worded(exact::word(x));
-    pieces::put(out, at, &digits)
+    pieces::put(page, &digits);
 }
 
 // A space, and the 16 hex digits of w, from the last one on.
