@@ -5,8 +5,10 @@
 #![tactic(auto)]
 
 ghost use Rattle.std.specs.Prelude.{◌≡◌};
-ghost use Rattle.pieces.specs.Pieces.{put_in, end_in};
+ghost use Rattle.pieces.specs.Page.{written};
 ghost use Rattle.tag.specs.Tag.{tag_with, tag_text};
+
+use pieces::Page;
 
 // Object and epoch. A card has both, or neither, which is not the same as zero: an Option says which.
 #[derive(Clone, Copy)]
@@ -25,16 +27,15 @@ pub fn present(object: u32, word: u64) -> Tag
     }
 }
 
-// A space and `-` twice, or object and epoch in decimal, from index at on. Answers where it ends.
-pub fn put(tag: Option<Tag>, page: &mut [u8], at: usize) -> usize
-    ensures value { result ≡ end_in page.old at (tag_text tag) }
-    ensures page_after { page.new ≡ put_in page.old at (tag_text tag) }
+// A space and `-` twice, or object and epoch in decimal, in a page.
+pub fn put(tag: Option<Tag>, page: &mut Page)
+    ensures { page.new ≡ written page.old (tag_text tag) }
 {
     match tag {
-        None => pieces::put(page, at, b" - -"),
+        None => pieces::put(page, b" - -"),
         Some(tag) => {
-            let end = text::count(page, at, tag.object);
-            text::signed(page, end, tag.epoch)
+            text::count(page, tag.object);
+            text::signed(page, tag.epoch);
         }
     }
 }
