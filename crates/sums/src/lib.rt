@@ -5,22 +5,24 @@
 
 ghost use Rattle.std.specs.Prelude.{◌≡◌};
 ghost use Rattle.rows.specs.Rows.{stated};
-ghost use Rattle.pieces.specs.Pieces.{put_in, end_in};
+ghost use Rattle.pieces.specs.Page.{written};
 ghost use Rattle.universal.specs.Series.{out_of_range};
 ghost use Rattle.sums.specs.Sums.{sums_at, sums_line};
 
-// `series C2 C3` or `refused NUMBER`, in out from index at on, as far as out goes. Answers where it ends.
-pub fn put(z: f64, out: &mut [u8], at: usize) -> usize
-    ensures value { result ≡ end_in out.old at (sums_line (sums_at z)) }
-    ensures out_after { out.new ≡ put_in out.old at (sums_line (sums_at z)) }
+use pieces::Page;
+
+// `series C2 C3` or `refused NUMBER`, in a page, as far as it goes.
+#[tactic(auto, using(pieces::proofs::Pages::pages))]
+pub fn put(z: f64, page: &mut Page)
+    ensures { page.new ≡ written page.old (sums_line (sums_at z)) }
 {
     let Some((c2, c3)) = both(z) else {
-        return sheets::put_refusal(universal::series::refusal(), out, at);
+        return sheets::put_refusal(universal::series::refusal(), page);
     };
-    let mut end = pieces::put(out, at, b"series");
-    end = text::number(out, end, c2);
-    end = text::number(out, end, c3);
-    pieces::put(out, end, b"\n")
+    pieces::put(page, b"series");
+    text::number(page, c2);
+    text::number(page, c3);
+    pieces::put(page, b"\n");
 }
 
 // Both sums; none, since one is refused.
