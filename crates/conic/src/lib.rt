@@ -47,6 +47,7 @@ pub struct Scaled {
 
 impl Scaled {
     // T(x): the scaled time; NaN where the functions are refused.
+    #[tactic(auto, unfolding(crate::specs::TimeAndRatio::time_at))]
     pub fn time_at(self, x: f64) -> f64
         ensures { result ≡ time_at self x }
     {

@@ -12,6 +12,7 @@ const LEAST_RATIO: f64 = 0.0009765625;
 
 // The state that u1, u2 and the radius ratio unfold to, where the ratio is allowed and every
 // component is finite.
+#[tactic(auto, unfolding(rows::specs::Rows::must, crate::specs::Unfolding::arrival_of))]
 pub fn arrive(o: Scaled, u1: f64, u2: f64, ratio: f64) -> Result<State, Reason>
     ensures { checked reason_number result ≡ arrival_of o u1 u2 ratio }
 {
@@ -26,6 +27,7 @@ pub fn arrive(o: Scaled, u1: f64, u2: f64, ratio: f64) -> Result<State, Reason>
 }
 
 // The state that x unfolds to, with the same tests, where the functions are not refused.
+#[tactic(auto, unfolding(rows::specs::Rows::onward, crate::specs::Unfolding::arrival_at))]
 pub fn arrive_at(o: Scaled, x: f64) -> Result<State, Reason>
     ensures { checked reason_number result ≡ arrival_at o x }
 {
@@ -33,6 +35,7 @@ pub fn arrive_at(o: Scaled, x: f64) -> Result<State, Reason>
     arrive(o, u.u1, u.u2, universal::ratio(o.s, u))
 }
 
+#[tactic(auto, unfolding(crate::specs::Unfolding::unfolded))]
 fn unfolded_state(o: Scaled, u1: f64, u2: f64, ratio: f64) -> State
     ensures { result ≡ unfolded o u1 u2 ratio }
 {

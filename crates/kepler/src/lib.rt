@@ -12,6 +12,7 @@ ghost use Rattle.kepler.specs.Kepler.{kepler_of};
 use conic::{Outcome, Problem};
 
 // The state after dt, or the refusal.
+#[tactic(auto, unfolding(crate::specs::Kepler::kepler_of))]
 pub fn kepler(p: Problem) -> Outcome
     ensures { said result ≡ kepler_of p }
 {

@@ -17,6 +17,7 @@ use vectors::Vector;
 pub type Outcome = search::Outcome<Vector, Reason>;
 
 // The velocity at r1, or the refusal.
+#[tactic(auto, unfolding(crate::specs::Lambert::lambert_of))]
 pub fn lambert(q: Transfer) -> Outcome
     ensures { said result ≡ lambert_of q }
 {

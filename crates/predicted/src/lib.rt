@@ -80,16 +80,7 @@ fn answered(given: &[u8]) -> Card
 fn words_of(given: &[u8]) -> [u64; 8]
     ensures { result ≡ words_in given.now }
 {
-    [
-        words::word(given, 0),
-        words::word(given, 8),
-        words::word(given, 16),
-        words::word(given, 24),
-        words::word(given, 32),
-        words::word(given, 40),
-        words::word(given, 48),
-        words::word(given, 56),
-    ]
+    [0, 8, 16, 24, 32, 40, 48, 56].map(|at| words::word(given, at))
 }
 
 fn kind_of(outcome: Outcome) -> Kind
@@ -127,15 +118,8 @@ fn put_solved(x: f64, state: State, fields: &mut [u8], at: usize) -> usize
     requires { at ≤ length fields.old }
     ensures { Put fields.old at (solved_answer x state) fields.new result }
 {
-    let answer = [
-        exact::word(x),
-        exact::word(state.r.x),
-        exact::word(state.r.y),
-        exact::word(state.r.z),
-        exact::word(state.v.x),
-        exact::word(state.v.y),
-        exact::word(state.v.z),
-    ];
+    let State { r, v } = state;
+    let answer = [x, r.x, r.y, r.z, v.x, v.y, v.z].map(exact::word);
     put_words(fields, at, &answer)
 }
 

@@ -178,6 +178,7 @@ pub fn contains(b: Bracket, x: f64) -> bool
 }
 
 // The first guess: t where the bracket contains it, else the middle.
+#[tactic(auto, unfolding(crate::specs::Search::first_guess))]
 pub fn first(b: Bracket, t: f64) -> f64
     ensures { result ≡ first_guess b t }
 {
@@ -185,6 +186,7 @@ pub fn first(b: Bracket, t: f64) -> f64
 }
 
 // Step 3: the bracket in which the guess has taken the place of one end.
+#[tactic(auto, unfolding(crate::specs::Search::narrowed_by))]
 pub fn narrowed(b: Bracket, guess: Point, t: f64) -> Bracket
     ensures { result ≡ narrowed_by b guess t }
 {
@@ -199,6 +201,7 @@ pub fn narrowed(b: Bracket, guess: Point, t: f64) -> Bracket
 
 // Step 5, from the bracket as it stood before step 3: the end that the guess replaced is the one
 // that the extrapolation goes by.
+#[tactic(auto, unfolding(crate::specs::Search::next_guess))]
 pub fn next(b: Bracket, guess: Point, t: f64) -> Option<f64>
     ensures { said result ≡ next_guess b guess t }
 {

@@ -3,7 +3,7 @@ use mathlib.Core.Path.{◌≡◌, refl, sym}
 use mathlib.Core.List.{List}
 use Prim.Native.Nat.{ℕ, ◌/◌, ◌≤◌}
 use native.Mathlib.Omega.{arith}
-use lib.ListN.{length, take}
+use lib.ListN.{length, take, length-replicate}
 use lib.Seq.{length-take-le}
 use Rattle.pieces.specs.Pieces.{Put}
 use Rattle.pieces.proofs.Puts.{renamed, wrote, inside, front}
@@ -25,7 +25,7 @@ deck_there v problems h room p =
     front p (omega (arith, deck_most (deck_from v problems) (omega (arith, as_many v n problems)) (sized v problems), room))
 
 pub returns-then-buffer-end : goal.returns-then-buffer-end
-returns-then-buffer-end c = let d = deck_there c.args.version c.args.problems.now c.requires c.blank-page.ensures c.fill-end.ensures in
+returns-then-buffer-end c = let d = deck_there c.args.version c.args.problems.now c.requires (sym (length-replicate {A = ℕ} largest_deck 0)) c.fill-end.ensures in
     let both = no_room_writes c.args.buffer.now refl (omega (arith, d.0)) in record { result_value = both.0; buffer_after = both.1 }
 
 pub slice_bounds-page-end : goal.slice_bounds-page-end
@@ -35,5 +35,5 @@ pub slice_bounds-put-end : goal.slice_bounds-put-end
 slice_bounds-put-end c = sym (length-take-le _ _ (inside c.fill-end.ensures))
 
 pub returns : goal.returns
-returns c = let d = deck_there c.args.version c.args.problems.now c.requires c.blank-page.ensures c.fill-end.ensures in
+returns c = let d = deck_there c.args.version c.args.problems.now c.requires (sym (length-replicate {A = ℕ} largest_deck 0)) c.fill-end.ensures in
     let both = deck_writes refl (omega (arith, d.0)) (renamed d.1 (wrote (c.put.ensures.value, c.put.ensures.out_after))) in record { result_value = both.0; buffer_after = both.1 }

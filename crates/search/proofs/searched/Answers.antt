@@ -9,9 +9,6 @@ use Rattle.search.proofs.searched.Goals as goal
 pub search-init : goal.search-init
 search-init g c = begins c.first-x.ensures
 
-pub overflow_add-count : goal.overflow_add-count
-overflow_add-count g c = omega (arith, c.search.invariant.more)
-
 pub returns-then-not-finite : goal.returns-then-not-finite
 returns-then-not-finite g c = ends_lost c.search.invariant c.time_at-time.ensures (sym c.finite.ensures ∙ c.if-not-finite.true)
 
