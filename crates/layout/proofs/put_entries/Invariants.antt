@@ -3,4 +3,4 @@ use Rattle.layout.proofs.Entering.{Entering}
 use Rattle.layout.proofs.put_entries.Given as goal
 
 abbrev pub invariant-loop-number : goal.invariant-loop-number
-invariant-loop-number l = Entering l.version l.kinds l.initial.out l.start l.out l.offset l.end l.number-index
+invariant-loop-number l = Entering l.version l.kinds l.initial.page l.page l.offset l.number-index
