@@ -5,12 +5,14 @@
 #![tactic(auto)]
 
 ghost use Rattle.std.specs.Prelude.{◌≡◌, ◌≤◌, ◌<◌, length};
-ghost use Rattle.pieces.specs.Pieces.{Put, handed_in};
+ghost use Rattle.pieces.specs.Page.{written};
+ghost use Rattle.pieces.specs.Pieces.{handed_in};
 ghost use Rattle.text.specs.Text.{text};
 ghost use Rattle.line.specs.Line.{width_of, line_of};
 ghost use Rattle.lines.specs.Lines.{lines_of, block_of, block_records, block_bytes, most_text};
 
 use line::Question;
+use pieces::Page;
 
 // The most records that are answered at a time, and the room that their lines take at most: 137 bytes
 // each, and `short` with its line end.
@@ -48,7 +50,9 @@ pub fn lines(asked: Question, s: &[u8], out: &mut [u8]) -> usize
     if out.len() < ROOM {
         return in_little_room(asked, &s[..size], out);
     }
-    write(asked, &s[..size], out)
+    let mut page = Page { bytes: out, at: 0 };
+    write(asked, &s[..size], &mut page);
+    page.at
 }
 
 // Whether the lines fit is only known once they are made.
@@ -57,9 +61,14 @@ fn in_little_room(asked: Question, s: &[u8], out: &mut [u8]) -> usize
     ensures value { result ≡ length (lines_of asked s.now) }
     ensures out_after { out.new ≡ handed_in (lines_of asked s.now) out.old }
 {
-    let mut page = blank();
-    let end = write(asked, s, &mut page);
-    pieces::hand(&page[..end], out)
+    let mut whole = blank();
+    let mut page = Page {
+        bytes: &mut whole,
+        at: 0,
+    };
+    write(asked, s, &mut page);
+    let end = page.at;
+    pieces::hand(&whole[..end], out)
 }
 
 // A page with room for the lines of any block.
@@ -70,24 +79,23 @@ fn blank() -> [u8; ROOM]
 }
 
 // What is written for each whole record of s, and `short` if there is more.
-fn write(asked: Question, s: &[u8], page: &mut [u8]) -> usize
-    ensures { Put page.old 0 (lines_of asked s.now) page.new result }
+fn write(asked: Question, s: &[u8], page: &mut Page)
+    requires { page.old.at ≤ length page.old.bytes.now }
+    ensures { page.new ≡ written page.old (lines_of asked s.now) }
 {
-    let mut end = 0;
     for part in s.chunks(line::width(asked)) {
-        end = put(asked, part, page, end);
+        put(asked, part, page);
     }
-    end
 }
 
 // What is written for one record, or `short` where it is cut off.
-fn put(asked: Question, part: &[u8], page: &mut [u8], at: usize) -> usize
-    ensures cut_off { length part.now < width_of asked → Put page.old at (text "short\n") page.new result }
-    ensures whole { width_of asked ≤ length part.now → Put page.old at (line_of asked part.now) page.new result }
+fn put(asked: Question, part: &[u8], page: &mut Page)
+    ensures cut_off { length part.now < width_of asked → page.new ≡ written page.old (text "short\n") }
+    ensures whole { width_of asked ≤ length part.now → page.new ≡ written page.old (line_of asked part.now) }
 {
     if part.len() < line::width(asked) {
-        pieces::put(page, at, b"short\n")
+        pieces::put(page, b"short\n")
     } else {
-        line::line(asked, part, page, at)
+        line::line(asked, part, page)
     }
 }

@@ -1,5 +1,5 @@
 -- Laws of writing into a page: pieces one behind the other are one piece; and what is lent at the end.
-use mathlib.Core.Path.{◌≡◌, refl, sym}
+use mathlib.Core.Path.{◌≡◌, refl, sym, ap, ◌∙◌}
 use mathlib.Core.List.{List, [], ◌∷◌, ◌++◌, append-nil, append_assoc}
 use Prim.Native.Nat.{ℕ, ◌≤◌}
 use lib.ListN.{length}
@@ -36,6 +36,11 @@ inside p s = laws.inside {before = p.bytes.now} {piece = s} {at = p.at} (record 
 
 pub within : (p : Page) (s : List ℕ) {q : Page} {out : List ℕ} → q ≡ written p s → out ≡ q.bytes.now → q.at ≤ length out
 within p s a e = rw (e, a) (inside p s)
+
+-- what was written into a page is a piece put into what it lends
+pub as_put : (p : Page) (s : List ℕ) {q : Page} {out : List ℕ} → q ≡ written p s → out ≡ q.bytes.now → Put p.bytes.now p.at s out q.at
+unfolding written
+as_put p s a e = record { ends = ap (λ (k : Page). k.at) a; holds = e ∙ ap (λ (k : Page). k.bytes.now) a }
 
 -- the two fields written
 pub fields : {p : Page} {s after : List ℕ} {end : ℕ} → Put p.bytes.now p.at s after end → record p { bytes = record p.bytes { now = after }; at = end } ≡ written p s

@@ -1,6 +1,6 @@
 -- `lines::write` meets its contract.
 use mathlib.Core.Path.{◌≡◌, refl, sym, ap, ap₂, ◌∙◌}
-use mathlib.Core.List.{List, [], ◌∷◌, ◌++◌, append-nil, append_assoc}
+use mathlib.Core.List.{List, [], ◌∷◌, ◌++◌}
 use Prim.Native.Nat.{ℕ, ◌+◌, ◌≤◌, ◌<◌, min}
 use native.Mathlib.Nat.{le_of_eq}
 use native.Mathlib.Omega.{arith}
@@ -9,29 +9,16 @@ use lib.Seq.{take-append_seam, drop-append_seam}
 use Rattle.std.proofs.Common.{inl, inr, rules}
 use Rattle.std.proofs.lemmas.Bool.{cases_lt}
 use Rattle.std.specs.Slice.Iter.{chunks_size}
-use Rattle.pieces.specs.Pieces.{Put}
+use Rattle.pieces.specs.declared.Page.{Page}
+use Rattle.pieces.specs.Page.{written}
+use Rattle.pieces.proofs.InPieces.{InPieces, nothing_yet, one_on, all_there}
 use Rattle.text.specs.Text.{text}
-use Rattle.pieces.proofs.Puts.{puts, renamed, none}
 use Rattle.line.specs.declared.Question.{Question}
 use Rattle.line.specs.Line.{width_of, line_of}
 use Rattle.lines.specs.Lines.{left_over, lines_of}
 use Rattle.line.proofs.Widths.{width_least}
 use Rattle.lines.proofs.Records.{first_line, no_line}
-use Rattle.lines.proofs.write.Invariants.{Going}
 use Rattle.lines.proofs.write.Goals as goal
-
-start : (asked : Question) (s page : List ℕ) → Going asked s page page s 0
-start asked s page = record { done = []; written = none (omega arith); all = refl }
-
--- what is written next, and what is left behind it
-onward : {asked : Question} {s page₀ page next rest others piece : List ℕ} {end last : ℕ} → Going asked s page₀ page rest end → lines_of asked rest ≡ piece ++ lines_of asked others → Put page end piece next last
-    → Going asked s page₀ next others last
-onward {asked} {others = others} {piece = piece} g e p =
-    record {
-      done = g.done ++ piece;
-      written = puts g.written p;
-      all = g.all ∙ ap (λ (l : List ℕ). g.done ++ l) e ∙ sym (append_assoc g.done piece (lines_of asked others));
-    }
 
 nothing : (asked : Question) (rest : List ℕ) → length rest ≤ 0 → lines_of asked rest ≡ []
 nothing asked rest h = rw (drop_of_length-le rest h) (no_line asked [] (omega (arith, width_least asked)))
@@ -57,28 +44,25 @@ whole_one asked rest part others parts size long =
     ∙ ap (λ (l : List ℕ). line_of asked (take (length part) l) ++ lines_of asked (drop (length part) l)) parts
     ∙ ap₂ (λ (a b : List ℕ). line_of asked a ++ lines_of asked b) (take-append_seam part others) (drop-append_seam part others)
 
-turn : {asked : Question} {s page₀ page next rest others : List ℕ} {end last : ℕ} (part : List ℕ) → Going asked s page₀ page rest end → rest ≡ part ++ others → length part ≡ min (width_of asked) (length rest) → 0 < length rest
-    → (length part < width_of asked → Put page end (text "short\n") next last) → (width_of asked ≤ length part → Put page end (line_of asked part) next last) → Going asked s page₀ next others last
-turn {asked} {rest = rest} {others = others} part g parts size some cut_off whole =
+turn : (asked : Question) {whole rest : List ℕ} {start page next : Page} (part others : List ℕ) → InPieces start whole page (lines_of asked rest) → rest ≡ part ++ others → length part ≡ min (width_of asked) (length rest) → 0 < length rest
+    → (length part < width_of asked → next ≡ written page (text "short\n")) → (width_of asked ≤ length part → next ≡ written page (line_of asked part)) → InPieces start whole next (lines_of asked others)
+turn asked {rest = rest} part others g parts size some cut_off whole =
     elim (cases_lt (length part) (width_of asked)) [
-      | inl less ↦ onward g (last_one asked rest part others parts size some less) (cut_off less)
-      | inr long ↦ onward g (whole_one asked rest part others parts size long) (whole long)
+      | inl less ↦ one_on (text "short\n") g (sym (last_one asked rest part others parts size some less)) (cut_off less)
+      | inr long ↦ one_on (line_of asked part) g (sym (whole_one asked rest part others parts size long)) (whole long)
     ]
 
 pub loop-part-init : goal.loop-part-init
 loop-part-init c =
     let made = c.into_iter-part-iterator.ensures.into_iter_gives in
     let size = ap chunks_size made ∙ c.chunks-part-items.ensures.size ∙ c.width.ensures in
-    (omega (arith, size, width_least c.args.asked), tt, size, rw made (rw c.chunks-part-items.ensures.rest (start c.args.asked c.args.s.now c.args.page.now)))
+    (omega (arith, size, width_least c.args.asked), tt, size, rw made (rw c.chunks-part-items.ensures.rest (nothing_yet (lines_of c.args.asked c.args.s.now) c.requires)))
 
 pub loop-part-preserved : goal.loop-part-preserved
 loop-part-preserved c =
     let steps = c.in-Some.ensures.steps in
     let size = c.loop-part.invariant.2 in
-    (search rules, tt, steps.0 ∙ size, turn c.in-Some.part.now c.loop-part.invariant.3 steps.1.0 (rw size at steps.1.1) steps.1.2 c.put-end.ensures.cut_off c.put-end.ensures.whole)
+    (search rules, tt, steps.0 ∙ size, turn c.args.asked c.in-Some.part.now _ c.loop-part.invariant.3 steps.1.0 (rw size at steps.1.1) steps.1.2 c.put.ensures.cut_off c.put.ensures.whole)
 
 pub returns : goal.returns
-returns c =
-    let g = c.loop-part.invariant.3 in
-    let none = nothing c.args.asked _ (le_of_eq c.in-None.ensures.steps.1.0) in
-    renamed (sym (g.all ∙ ap (λ (l : List ℕ). g.done ++ l) none ∙ append-nil g.done)) g.written
+returns c = all_there c.loop-part.invariant.3 (nothing c.args.asked _ (le_of_eq c.in-None.ensures.steps.1.0))
