@@ -130,7 +130,7 @@ impl Reason {
         }
     }
 
-    // Whether the number on a refused card means it.
+    // Whether the number on a refused card means it. A number as it was sent: any may stand there.
     pub fn is_meant_by(self, number: u32) -> bool
         ensures { result ≡ is_meant_by (reason_number self) number }
     {

@@ -61,7 +61,8 @@ pub fn named(number: u32) -> Option<Version>
     }
 }
 
-// The version that is given for a deck, where what goes into it has that version's form.
+// The version that is given for a deck, where what goes into it has that version's form. Two numbers, as they
+// are given by a program or in C: another than 1 and 2, or 0 and 1, is refused here.
 pub fn given(number: u32, form: u32) -> Option<Version>
     ensures { given_said result ≡ version_given number form }
 {
