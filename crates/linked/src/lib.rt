@@ -122,6 +122,7 @@ fn mean_in(answer: Result<(Totals, Option<Residuals>), Reason>) -> f64
     }
 }
 
+// C gets the number of a refusal.
 fn minus(number: u32) -> f64
     ensures { result ≡ minus_number number }
 {
