@@ -1,5 +1,5 @@
 -- Laws of writing into a page: pieces one behind the other are one piece; and what is lent at the end.
-use mathlib.Core.Path.{◌≡◌, refl, sym}
+use mathlib.Core.Path.{◌≡◌, refl, sym, ap}
 use mathlib.Core.List.{List, [], ◌∷◌, ◌++◌, append-nil, append_assoc}
 use Prim.Native.Nat.{ℕ, ◌≤◌}
 use lib.ListN.{length}
@@ -41,6 +41,11 @@ within p s a e = rw (e, a) (inside p s)
 pub fields : {p : Page} {s after : List ℕ} {end : ℕ} → Put p.bytes.now p.at s after end → record p { bytes = record p.bytes { now = after }; at = end } ≡ written p s
 unfolding written
 fields {p} f = λ i. record p { bytes = record p.bytes { now = f.holds i }; at = f.ends i }
+
+-- and a piece that a page has written into it, in the bytes that it lends
+pub as_put : (p : Page) (s : List ℕ) {q : Page} → q ≡ written p s → Put p.bytes.now p.at s q.bytes.now q.at
+unfolding written
+as_put p s e = record { ends = ap (λ (r : Page). r.at) e; holds = ap (λ (r : Page). r.bytes.now) e }
 
 -- no piece at all leaves a page as it is, if its place is inside
 pub nothing : (p : Page) → p.at ≤ length p.bytes.now → written p [] ≡ p
