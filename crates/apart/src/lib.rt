@@ -7,6 +7,7 @@
 ghost use Rattle.std.specs.Prelude.{◌≡◌, ◌≤◌, length};
 ghost use Rattle.rows.specs.Rows.{pass, checked};
 ghost use Rattle.pieces.specs.Pieces.{Put};
+ghost use Rattle.pieces.specs.Page.{written};
 ghost use Rattle.card.specs.Fields.{size_of};
 ghost use Rattle.card.specs.Made.{rest_from, fields_in};
 ghost use Rattle.version.specs.declared.Version.{Version};
@@ -15,6 +16,7 @@ ghost use Rattle.apart.specs.Apart.{kinds_taken, fields_taken, apart_of, sizes_o
 ghost use Rattle.ruling.specs.Said.{reason_number};
 
 use card::Kind;
+use pieces::Page;
 use ruling::Reason;
 use version::Version;
 
@@ -31,7 +33,11 @@ pub fn take(
 {
     let (version, count, size) = measured(deck, kinds.len(), fields.len())?;
     list_kinds(deck, count, kinds);
-    put_all(deck, version, count, fields);
+    let mut page = Page {
+        bytes: fields,
+        at: 0,
+    };
+    put_all(deck, version, count, &mut page);
     Ok((version, count, size))
 }
 
@@ -77,32 +83,30 @@ fn list_kinds(deck: &[u8], count: u32, kinds: &mut [u32])
 }
 
 // The fields of each card, behind those of the card before.
-fn put_all(deck: &[u8], version: Version, count: u32, fields: &mut [u8]) -> usize
-    requires { counted_in deck.now ≡ pass (version, count) }
-    ensures { (d : Deck) → deck_in deck.now ≡ pass d → Put fields.old 0 (fields_taken d) fields.new result }
+fn put_all(deck: &[u8], version: Version, count: u32, page: &mut Page)
+    requires { (counted_in deck.now ≡ pass (version, count)) × (page.old.at ≤ length page.old.bytes.now) }
+    ensures { (d : Deck) → deck_in deck.now ≡ pass d → page.new ≡ written page.old (fields_taken d) }
 {
     let mut at = contents::HEADER + contents::ENTRY * count as usize;
-    let mut end = 0;
     for i in 0..count {
         let Some(kind) = contents::kind_at(deck, i) else {
-            return end;
+            return;
         };
         let next = at + kind.size(version);
-        end = put_fields(version, kind, &deck[at..next], fields, end);
+        put_fields(version, kind, &deck[at..next], page);
         at = next;
     }
-    end
 }
 
 // The fields in a body, without its spares.
-fn put_fields(version: Version, kind: Kind, body: &[u8], fields: &mut [u8], at: usize) -> usize
+fn put_fields(version: Version, kind: Kind, body: &[u8], page: &mut Page)
     requires { length body.now ≡ size_of version kind }
-    ensures { Put fields.old at (fields_in version kind body.now) fields.new result }
+    ensures { page.new ≡ written page.old (fields_in version kind body.now) }
 {
-    let problem = pieces::put(fields, at, &body[..card::PROBLEM]);
+    pieces::put(page, &body[..card::PROBLEM]);
     let first = rest_from(kind);
     let last = first + (kind.packed(version) - card::PROBLEM);
-    pieces::put(fields, problem, &body[first..last])
+    pieces::put(page, &body[first..last]);
 }
 
 // Where the rest begins in a body: behind the problem, and behind its spare where there is one.

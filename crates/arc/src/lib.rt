@@ -69,6 +69,7 @@ pub enum Reason {
 
 impl Reason {
     // Its number in the rules.
+    // No `From`: docs/STATEMENTS.md has the clause, and that it has one result (docs/DECISIONS.md 149).
     pub fn number(self) -> u32
         ensures { result ≡ reason_number self }
     {

@@ -65,6 +65,7 @@ pub enum Kind {
 
 impl Kind {
     // Its number in an entry.
+    // No `From`: docs/STATEMENTS.md has the clause, and that it has one result (docs/DECISIONS.md 149).
     pub fn number(self) -> u32
         ensures { result ≡ kind_number self }
     {
@@ -141,7 +142,7 @@ fn tag_at(kind: Kind) -> usize
     }
 }
 
-// The kind that has this number. No TryFrom: it would want an error type where None says all.
+// The kind that has this number. No `TryFrom`: an Option says that there is none (docs/DECISIONS.md 149).
 pub fn kind_of(number: u32) -> Option<Kind>
     ensures { stated 34 result ≡ kind_of number }
 {

@@ -21,8 +21,8 @@ pub enum Place {
 }
 
 // The unknown x, the time there and the wanted one, and the unit of both times: the residual of a time that
-// is near, or the number with which the card is rejected, 20, 6 or 21. The tests read the scaled times; the
-// residual alone is in seconds.
+// is near, or the number with which the card is rejected, 20, 6 or 21, which are of two enums. The tests read the
+// scaled times; the residual alone is in seconds.
 pub fn time(b: Bracket, x: f64, time: f64, t: f64, unit: f64) -> Result<f64, u32>
     ensures { by_number result ≡ timed_by b x time t unit }
 {
@@ -38,7 +38,8 @@ pub fn time(b: Bracket, x: f64, time: f64, t: f64, unit: f64) -> Result<f64, u32
     Ok(exact::absolute(time - t) * unit)
 }
 
-// Whether the three words that stand in an answer at this place are those of a.
+// Whether the three words that stand in an answer at this place are those of a. No derived equality: -0 is not 0
+// here, and every NaN word is NaN's.
 pub fn same(answer: &[u8], place: Place, a: Vector) -> bool
     ensures { result ≡ same_words answer.now (place_at place) a }
 {

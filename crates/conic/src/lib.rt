@@ -109,6 +109,7 @@ pub enum Reason {
 
 impl Reason {
     // Its number in the rules.
+    // No `From`: docs/STATEMENTS.md has the clause, and that it has one result (docs/DECISIONS.md 149).
     pub fn number(self) -> u32
         ensures { result ≡ reason_number self }
     {
@@ -129,7 +130,7 @@ impl Reason {
         }
     }
 
-    // Whether the number on a refused card means it.
+    // Whether the number on a refused card means it. A number as it was sent: any may stand there.
     pub fn is_meant_by(self, number: u32) -> bool
         ensures { result ≡ is_meant_by (reason_number self) number }
     {

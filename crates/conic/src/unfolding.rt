@@ -1,4 +1,4 @@
-// From the universal functions back to a state: RULES, Unfolding, with the tests for
+// From the universal functions back to a state: docs/RULES.md, Unfolding, with the tests for
 // refusals 11 and 6 that every caller makes.
 ghost use Rattle.std.specs.Prelude.{◌≡◌};
 ghost use Rattle.rows.specs.Rows.{checked};

@@ -11,7 +11,8 @@ use card::Kind;
 use pieces::Page;
 use tag::Tag;
 
-// `card PLACE KIND OBJECT EPOCH VERDICT`, in a page, with `-` twice where there are no object and epoch.
+// `card PLACE KIND OBJECT EPOCH VERDICT`, in a page, with `-` twice where there are no object and epoch. The
+// verdict is the number that the verdict list has.
 #[tactic(auto, using(pieces::proofs::Pages::pages))]
 pub fn line(place: u32, kind: Kind, tag: Option<Tag>, verdict: u32, page: &mut Page)
     ensures { page.new ≡ written page.old (placed_line place kind tag verdict) }

@@ -29,7 +29,7 @@ pub enum Question {
     Series,
 }
 
-// The bytes of one record.
+// The bytes of one record. A match, here and below, and no trait: the definitions go by what is asked.
 pub fn width(asked: Question) -> usize
     ensures { result ≡ line.width_of asked }
 {

@@ -77,7 +77,8 @@ fn solved<A: Shown>(solution: Solution<A>, page: &mut Page)
     pieces::put(page, b"\n");
 }
 
-// `refused NUMBER COUNT`, and `LO HI` where the bracket's ends are named.
+// `refused NUMBER COUNT`, and `LO HI` where the bracket's ends are named. A number, here and below, and no enum:
+// it may be a prediction's, a transfer's or a fault's.
 fn unsolved(number: u32, count: u32, ends: Option<(f64, f64)>, page: &mut Page)
     ensures { page.new ≡ written page.old (outcomes.unsolved_line number count ends) }
 {

@@ -47,6 +47,11 @@ pub fields : {p : Page} {s after : List ℕ} {end : ℕ} → Put p.bytes.now p.a
 unfolding written
 fields {p} f = λ i. record p { bytes = record p.bytes { now = f.holds i }; at = f.ends i }
 
+-- and a piece that a page has written into it, in the bytes that it lends
+pub as_put : (p : Page) (s : List ℕ) {q : Page} → q ≡ written p s → Put p.bytes.now p.at s q.bytes.now q.at
+unfolding written
+as_put p s e = record { ends = ap (λ (r : Page). r.at) e; holds = ap (λ (r : Page). r.bytes.now) e }
+
 -- no piece at all leaves a page as it is, if its place is inside
 pub nothing : (p : Page) → p.at ≤ length p.bytes.now → written p [] ≡ p
 nothing p h = sym (fields {p = p} {s = []} {after = p.bytes.now} {end = p.at} (laws.none h))

@@ -106,7 +106,7 @@ pub fn answer<S: Sought>(
 }
 
 // The search: each guess is counted, and the bracket as it stood before the guess is kept for the
-// extrapolation.
+// extrapolation. One loop with a label, left by break: docs/RULES.md, The shape of each place 3.
 fn searched<S: Sought>(o: S, t: f64, start: Bracket, limit: u32) -> Found
     ensures { ended result ≡ search_of (S.time_at o) t limit start }
 {

@@ -33,7 +33,7 @@ pub fn put_root(answer: Result<f64, Reason>, page: &mut Page)
     }
 }
 
-// `refused NUMBER`, likewise.
+// `refused NUMBER`, likewise. A number, and no enum: it may be a root's or that of the series.
 #[tactic(auto, using(pieces::proofs::Pages::pages))]
 pub fn put_refusal(number: u32, page: &mut Page)
     ensures { page.new ≡ written page.old (refusal_line number) }

@@ -26,7 +26,8 @@ pub fn judge(question: &[u8], answer: &[u8]) -> Verdict
     }
 }
 
-// The card's way, and the tests of its own transfer before the first guess.
+// The card's way, and the tests of its own transfer before the first guess; the residual, or the number with
+// which the card is rejected, as `Verdict` has it.
 fn tested(question: &[u8], answer: &[u8]) -> Result<f64, u32>
     ensures { by_number result ≡ transfer_card (parts question.now answer.now) }
 {

@@ -1,4 +1,4 @@
-// C2 and C3: RULES, The universal functions 1 to 4 and 9. One loop works both, from k = 11 down.
+// C2 and C3: docs/RULES.md, The universal functions 1 to 4 and 9. One loop works both, from k = 11 down.
 ghost use Rattle.std.specs.Prelude.{◌≡◌};
 ghost use Rattle.rows.specs.Rows.{stated};
 ghost use Rattle.universal.specs.Series.{worked, in_range, out_of_range, series_by, series_of, sum_or_nan, sums_or_nans};
@@ -48,7 +48,8 @@ pub struct Pair {
     pub c3: f64,
 }
 
-// The refusal's number.
+// The refusal's number. A number, and no error of one value: the line of the series alone tells it, and an
+// Option says that there is no sum.
 pub fn refusal() -> u32
     ensures { result ≡ out_of_range }
 {

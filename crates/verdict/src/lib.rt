@@ -36,7 +36,7 @@ pub fn judge(kind: Kind, question: &[u8], answer: &[u8]) -> Verdict
     }
 }
 
-// The residual of a solved card, or the number with which it is rejected.
+// The residual of a solved card, or the number with which it is rejected, as `Verdict` has it.
 fn solved(question: &[u8], answer: &[u8]) -> Result<f64, u32>
     ensures { by_number result ≡ solved_card (parts question.now answer.now) }
 {

@@ -15,7 +15,8 @@ pub enum Version {
 }
 
 impl Version {
-    // Its number at the front of a deck.
+    // Its number at the front of a deck. No `From`, here and below: a version has two numbers (docs/DECISIONS.md
+    // 149).
     pub fn number(self) -> u32
         ensures { result ≡ version_number self }
     {
@@ -49,7 +50,7 @@ impl Version {
 // The bytes of object and epoch where a card has them.
 pub const TAG: usize = 4 + 8;
 
-// The version that has this number.
+// The version that has this number. No `TryFrom`: an Option says that there is none (docs/DECISIONS.md 149).
 pub fn named(number: u32) -> Option<Version>
     ensures { named_said result ≡ version_of number }
 {
@@ -60,7 +61,8 @@ pub fn named(number: u32) -> Option<Version>
     }
 }
 
-// The version that is given for a deck, where what goes into it has that version's form.
+// The version that is given for a deck, where what goes into it has that version's form. Two numbers, as they
+// are given by a program or in C: another than 1 and 2, or 0 and 1, is refused here.
 pub fn given(number: u32, form: u32) -> Option<Version>
     ensures { given_said result ≡ version_given number form }
 {

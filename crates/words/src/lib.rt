@@ -39,7 +39,7 @@ pub fn put_word(page: &mut Page, w: u64)
     spelled::put(page, w, 8);
 }
 
-// The same for the four bytes of w.
+// The same for the four bytes of w. Each has its clause in docs/STATEMENTS.md; `spelled::put` is the one function.
 pub fn put_half(page: &mut Page, w: u32)
     ensures { page.new ≡ written page.old (bytes_of 4 w) }
 {

@@ -3,7 +3,7 @@ use mathlib.Core.Path.{◌≡◌, sym, ap, ◌∙◌}
 use Prim.Native.Nat.{ℕ, ◌+◌, ◌-◌, ◌≤◌}
 use native.Mathlib.Omega.{arith}
 use lib.ListN.{length, take, drop}
-use Rattle.pieces.proofs.Puts.{renamed}
+use Rattle.pieces.specs.Page.{written}
 use Rattle.card.specs.Fields.{size_of}
 use Rattle.card.specs.Made.{fields_in}
 use Rattle.contents.proofs.Meeting.{never_unknown, inside, whole_body}
@@ -12,7 +12,7 @@ use Rattle.apart.proofs.put_all.Goals as goal
 use Rattle.apart.proofs.put_all.Goals.{After-size}
 
 pub loop-i-init : goal.loop-i-init
-loop-i-init c = none_put c.args.version c.args.deck.now c.args.count c.args.fields.now c.requires
+loop-i-init c = none_put c.args.version c.args.deck.now c.args.count c.args.page.now c.requires.0 c.requires.1
 
 pub returns-in_default : goal.returns-in_default
 returns-in_default c = λ d e. absurd (never_unknown c.loop-i.invariant.walk 34 (omega arith) (sym c.in_default.ensures))
@@ -25,13 +25,13 @@ ends c = rw c.size.ensures (inside c.loop-i.invariant.walk c.in-Some.kind (omega
 part : (c : After-size) → c.loop-i.at + c.size.result - c.loop-i.at ≡ size_of c.args.version c.in-Some.kind
 part c = omega (arith, c.size.ensures)
 
-pub put_fields-end-requires : goal.put_fields-end-requires
-put_fields-end-requires c =
-    ap (λ (n : ℕ). length (take n (drop c.loop-i.at c.args.deck.now))) (part (goal.at.put_fields-end-requires c).After-size) ∙ whole_body c.loop-i.invariant.walk c.in-Some.kind (omega arith) (sym c.in-Some.ensures)
+pub put_fields-requires : goal.put_fields-requires
+put_fields-requires c =
+    ap (λ (n : ℕ). length (take n (drop c.loop-i.at c.args.deck.now))) (part (goal.at.put_fields-requires c).After-size) ∙ whole_body c.loop-i.invariant.walk c.in-Some.kind (omega arith) (sym c.in-Some.ensures)
 
 pub loop-i-preserved : goal.loop-i-preserved
-loop-i-preserved c = let body_is = ap (λ (n : ℕ). fields_in c.args.version c.in-Some.kind (take n (drop c.loop-i.at c.args.deck.now))) (part (goal.at.loop-i-preserved c).After-size) in
-    rw c.size.ensures (put_on c.loop-i.invariant c.in-Some.kind (omega arith) (sym c.in-Some.ensures) (renamed body_is c.put_fields-end.ensures))
+loop-i-preserved c = let body_is = ap (λ (n : ℕ). written c.loop-i.page (fields_in c.args.version c.in-Some.kind (take n (drop c.loop-i.at c.args.deck.now)))) (part (goal.at.loop-i-preserved c).After-size) in
+    rw c.size.ensures (put_on c.loop-i.invariant c.in-Some.kind (omega arith) (sym c.in-Some.ensures) (c.put_fields.ensures ∙ body_is))
 
 pub returns : goal.returns
 returns c = all_put c.loop-i.invariant (omega arith)
