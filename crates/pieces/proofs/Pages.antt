@@ -37,11 +37,6 @@ inside p s = laws.inside {before = p.bytes.now} {piece = s} {at = p.at} (record 
 pub within : (p : Page) (s : List ℕ) {q : Page} {out : List ℕ} → q ≡ written p s → out ≡ q.bytes.now → q.at ≤ length out
 within p s a e = rw (e, a) (inside p s)
 
--- what was written into a page is a piece put into what it lends
-pub as_put : (p : Page) (s : List ℕ) {q : Page} {out : List ℕ} → q ≡ written p s → out ≡ q.bytes.now → Put p.bytes.now p.at s out q.at
-unfolding written
-as_put p s a e = record { ends = ap (λ (k : Page). k.at) a; holds = e ∙ ap (λ (k : Page). k.bytes.now) a }
-
 -- the two fields written
 pub fields : {p : Page} {s after : List ℕ} {end : ℕ} → Put p.bytes.now p.at s after end → record p { bytes = record p.bytes { now = after }; at = end } ≡ written p s
 unfolding written
@@ -51,6 +46,10 @@ fields {p} f = λ i. record p { bytes = record p.bytes { now = f.holds i }; at =
 pub as_put : (p : Page) (s : List ℕ) {q : Page} → q ≡ written p s → Put p.bytes.now p.at s q.bytes.now q.at
 unfolding written
 as_put p s e = record { ends = ap (λ (r : Page). r.at) e; holds = ap (λ (r : Page). r.bytes.now) e }
+
+-- and in what it lent, once that is given back
+pub given_back : (p : Page) (s : List ℕ) {q : Page} {out : List ℕ} → q ≡ written p s → out ≡ q.bytes.now → Put p.bytes.now p.at s out q.at
+given_back p s a e = let put = as_put p s a in record { ends = put.ends; holds = e ∙ put.holds }
 
 -- no piece at all leaves a page as it is, if its place is inside
 pub nothing : (p : Page) → p.at ≤ length p.bytes.now → written p [] ≡ p

@@ -4,7 +4,7 @@ use native.Mathlib.Nat.{le_trans, le_of_eq}
 use lib.Seq.{length-take-le}
 use Rattle.std.proofs.Common.{rules}
 use Rattle.pieces.proofs.Puts.{handed_on}
-use Rattle.pieces.proofs.Pages.{pages, within, as_put}
+use Rattle.pieces.proofs.Pages.{pages, within, given_back}
 use Rattle.lines.proofs.Records.{text_most}
 use Rattle.lines.proofs.in_little_room.Goals as goal
 
@@ -16,4 +16,4 @@ slice_bounds-hand-end c = sym (length-take-le _ _ (within _ _ c.write.ensures (s
 
 pub returns : goal.returns
 returns c = let fits = le_trans (text_most c.args.asked c.args.s.now c.requires) (le_of_eq c.blank-whole.ensures) in
-    let both = handed_on c.args.out.now (as_put _ _ c.write.ensures (search (rules, pages))) fits (c.hand.ensures.value, c.hand.ensures.out_after) in record { value = both.0; out_after = both.1 }
+    let both = handed_on c.args.out.now (given_back _ _ c.write.ensures (search (rules, pages))) fits (c.hand.ensures.value, c.hand.ensures.out_after) in record { value = both.0; out_after = both.1 }

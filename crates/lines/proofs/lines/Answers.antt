@@ -8,7 +8,7 @@ use lib.ListN.{length, take, length-take}
 use Rattle.std.proofs.Common.{rules}
 use Rattle.pieces.specs.Pieces.{handed_in}
 use Rattle.pieces.proofs.Puts.{renamed, handed}
-use Rattle.pieces.proofs.Pages.{pages, as_put}
+use Rattle.pieces.proofs.Pages.{pages, given_back}
 use Rattle.line.specs.declared.Question.{Question}
 use Rattle.lines.specs.Lines.{lines_of, block_bytes, block_of, most_text}
 use Rattle.lines.proofs.Records.{first_block, text_most}
@@ -34,5 +34,5 @@ pub returns : goal.returns
 returns c =
     let args = c.args in
     let fits = fits args.asked args.s.now args.out.now (omega arith) in
-    let so = handed (renamed (same_lines (goal.at.returns c).After-min-size) (as_put _ _ c.write.ensures (search (rules, pages)))) fits in
+    let so = handed (renamed (same_lines (goal.at.returns c).After-min-size) (given_back _ _ c.write.ensures (search (rules, pages)))) fits in
     record { value = so.0; out_after = so.1 }
