@@ -25,7 +25,7 @@ pub fn put(z: f64, page: &mut Page)
     pieces::put(page, b"\n");
 }
 
-// Both sums; none, since one is refused.
+// Both sums; none where one is refused.
 #[tactic(auto, unfolding(crate::specs::Sums::sums_at, rows::specs::Rows::onward))]
 fn both(z: f64) -> Option<(f64, f64)>
     ensures { stated out_of_range result ≡ sums_at z }
