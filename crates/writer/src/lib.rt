@@ -6,7 +6,7 @@
 
 ghost use Rattle.std.specs.Prelude.{◌≡◌, List, ◌≤◌, length};
 ghost use Rattle.rows.specs.Rows.{pass, onward, checked};
-ghost use Rattle.pieces.specs.Pieces.{Put};
+ghost use Rattle.pieces.specs.Page.{written};
 ghost use Rattle.card.specs.Fields.{Card};
 ghost use Rattle.contents.specs.Contents.{Deck, most_cards, Passes};
 ghost use Rattle.layout.specs.Layout.{bodies_of, deck_of};
@@ -14,6 +14,7 @@ ghost use Rattle.layout.specs.Packed.{packed_cards, packed_deck, finished_deck};
 ghost use Rattle.layout.specs.Written.{length_for, buffer_after};
 ghost use Rattle.ruling.specs.Said.{reason_number};
 
+use pieces::Page;
 use ruling::Reason;
 use version::Version;
 
@@ -45,7 +46,12 @@ fn put(version: Version, kinds: &[u32], fields: &[u8], buffer: &mut [u8]) -> Res
     if buffer.len() < size {
         return Err(Reason::NoRoom);
     }
-    Ok(fill(version, kinds, fields, buffer))
+    let mut page = Page {
+        bytes: buffer,
+        at: 0,
+    };
+    fill(version, kinds, fields, &mut page);
+    Ok(page.at)
 }
 
 // How long the deck of these cards is, or why they make none.
@@ -71,28 +77,26 @@ fn measured(version: Version, kinds: &[u32], fields: &[u8]) -> Result<usize, Rea
 }
 
 // The contents, the bodies.
-fn fill(version: Version, kinds: &[u32], fields: &[u8], buffer: &mut [u8]) -> usize
+fn fill(version: Version, kinds: &[u32], fields: &[u8], page: &mut Page)
     requires { (length kinds.now ≤ most_cards) × Passes (packed_cards version kinds.now fields.now) }
-    ensures { (d : Deck) → packed_deck version kinds.now fields.now ≡ pass d → Put buffer.old 0 (deck_of d) buffer.new result }
+    ensures { (d : Deck) → packed_deck version kinds.now fields.now ≡ pass d → page.new ≡ written page.old (deck_of d) }
 {
-    let end = layout::put_contents(version, kinds, buffer);
-    bodies(version, kinds, fields, buffer, end)
+    layout::put_contents(version, kinds, page);
+    bodies(version, kinds, fields, page);
 }
 
 // The body of each card.
-fn bodies(version: Version, kinds: &[u32], fields: &[u8], buffer: &mut [u8], start: usize) -> usize
-    requires { Passes (packed_cards version kinds.now fields.now) × (start ≤ length buffer.old) }
-    ensures { (cards : List Card) → packed_cards version kinds.now fields.now ≡ pass cards → Put buffer.old start (bodies_of cards) buffer.new result }
+fn bodies(version: Version, kinds: &[u32], fields: &[u8], page: &mut Page)
+    requires { Passes (packed_cards version kinds.now fields.now) × (page.old.at ≤ length page.old.bytes.now) }
+    ensures { (cards : List Card) → packed_cards version kinds.now fields.now ≡ pass cards → page.new ≡ written page.old (bodies_of cards) }
 {
     let mut at = 0;
-    let mut end = start;
     for number in kinds {
         let Some(kind) = card::kind_of(*number) else {
-            return end;
+            return;
         };
         let next = at + kind.packed(version);
-        end = layout::put_body(kind, &fields[at..next], buffer, end);
+        layout::put_body(kind, &fields[at..next], page);
         at = next;
     }
-    end
 }

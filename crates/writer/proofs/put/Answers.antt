@@ -4,6 +4,8 @@ use mathlib.Core.List.{List}
 use Prim.Native.Nat.{ℕ}
 use native.Mathlib.Omega.{arith}
 use lib.ListN.{length}
+use Rattle.std.proofs.Common.{rules}
+use Rattle.pieces.proofs.Pages.{pages, as_put}
 use Rattle.rows.specs.Rows.{pass}
 use Rattle.rows.proofs.Laws.{row_refused, rows_passed, pass_once}
 use Rattle.version.specs.declared.Version.{Version}
@@ -41,4 +43,7 @@ fill-requires c = let m = passed c.args.version c.args.kinds.now c.args.fields.n
     (omega arith, subst Passes (sym (packed_means c.args.version c.args.kinds.now c.args.fields.now m.packed).2) tt)
 
 pub returns : goal.returns
-returns c = let m = passed c.args.version c.args.kinds.now c.args.fields.now c.in_ok-size.ensures in let both = deck_writes m.packed (omega (arith, m.long)) (c.fill.ensures m.deck m.packed) in record { result_value = both.0; buffer_after = both.1 }
+returns c = let m = passed c.args.version c.args.kinds.now c.args.fields.now c.in_ok-size.ensures in
+    let put = c.fill.ensures m.deck m.packed in
+    let both = deck_writes m.packed (omega (arith, m.long)) (as_put _ (deck_of m.deck) put) in
+    record { result_value = both.0; buffer_after = rw (← both.1) (search (rules, pages, put)) }
