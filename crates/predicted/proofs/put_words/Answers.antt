@@ -6,7 +6,6 @@ use native.Mathlib.Numerals.{add-one}
 use native.Mathlib.Omega.{arith}
 use lib.ListN.{length, drop, get_or, drop_of_length-le}
 use lib.Seq.{drop-cons}
-use Rattle.pieces.proofs.Puts.{wrote}
 use Rattle.pieces.proofs.InPieces.{nothing_yet, one_on, all_there}
 use Rattle.spelled.specs.Spelled.{bytes_of}
 use Rattle.words.specs.Words.{words_bytes}
@@ -26,7 +25,7 @@ pub loop-word-init : goal.loop-word-init
 loop-word-init c = nothing_yet (words_bytes c.args.list.now) c.requires
 
 pub loop-word-preserved : goal.loop-word-preserved
-loop-word-preserved c = one_on c.loop-word.invariant (first c.args.list.now c.loop-word.word-index (omega arith)) (wrote (c.put_word-end.ensures.value, c.put_word-end.ensures.out_after))
+loop-word-preserved c = one_on _ c.loop-word.invariant (first c.args.list.now c.loop-word.word-index (omega arith)) c.put_word.ensures
 
 pub returns : goal.returns
 returns c = all_there c.loop-word.invariant (none_left c.args.list.now c.loop-word.word-index (omega arith))

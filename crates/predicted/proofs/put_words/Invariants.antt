@@ -5,4 +5,4 @@ use Rattle.words.specs.Words.{words_bytes}
 use Rattle.predicted.proofs.put_words.Given as goal
 
 abbrev pub invariant-loop-word : goal.invariant-loop-word
-invariant-loop-word l = InPieces l.initial.out l.at (words_bytes l.list) l.out l.end (words_bytes (drop l.word-index l.list))
+invariant-loop-word l = InPieces l.initial.page (words_bytes l.list) l.page (words_bytes (drop l.word-index l.list))
