@@ -54,6 +54,7 @@ pub fn put(outcome: Outcome, out: &mut [u8], at: usize) -> usize
 }
 
 // The same for a transfer: `solved COUNT Z VX VY VZ`, or a refusal as above.
+// The two matches stay: a trait for the number alone, which two enums of reasons would implement, is no plainer.
 pub fn put_transfer(outcome: lambert::Outcome, out: &mut [u8], at: usize) -> usize
     ensures value { result ≡ end_in out.old at (outcomes.transfer_line (lambert.said outcome)) }
     ensures out_after { out.new ≡ put_in out.old at (outcomes.transfer_line (lambert.said outcome)) }
