@@ -46,6 +46,7 @@ pub extern "C" fn tailfiddle_predict(problem: &[u8], sum: &mut f64) -> u32
 // The required velocity of the transfer with which the bytes begin. Where it is solved the answer is 0,
 // and `sum` becomes z + vx + vy + vz; else the refusal's number, 23 for a way that is neither 0 nor 1,
 // and `sum` stays as it was lent.
+// Its match stays beside that of the prediction: a trait for sum and number, each with two impls, is no plainer.
 #[unsafe(no_mangle)]
 pub extern "C" fn tailfiddle_transfer(transfer: &[u8], sum: &mut f64) -> u32
     ensures value { result ≡ outcome_number (answer_to (transfer_of transfer.now)) }

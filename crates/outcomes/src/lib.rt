@@ -56,6 +56,7 @@ pub fn put(outcome: Outcome, page: &mut Page)
 }
 
 // The same for a transfer: `solved COUNT Z VX VY VZ`, or a refusal as above.
+// The two matches stay: a trait for the number alone, which two enums of reasons would implement, is no plainer.
 pub fn put_transfer(outcome: lambert::Outcome, page: &mut Page)
     ensures { page.new ≡ written page.old (outcomes.transfer_line (lambert.said outcome)) }
 {
