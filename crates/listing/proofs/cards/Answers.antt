@@ -1,6 +1,6 @@
 -- `listing::cards` meets its contract: an accepted deck has a version, and its lines are those in it.
 use mathlib.Core.Path.{◌≡◌, sym, ap, ◌∙◌}
-use Rattle.pieces.proofs.Puts.{renamed}
+use Rattle.pieces.specs.Page.{written}
 use Rattle.rows.specs.Rows.{Checked, pass, refuse}
 use Rattle.rows.proofs.Laws.{pass_once}
 use Rattle.version.specs.declared.Version.{Version}
@@ -15,9 +15,9 @@ returns-in_default c = λ d e.
     absurd (cc)
 
 pub card_lines-requires : goal.card_lines-requires
-card_lines-requires c = (c.requires, ap version_of (sym c.half.ensures) ∙ sym c.in-Some.ensures)
+card_lines-requires c = (c.requires.0, ap version_of (sym c.half.ensures) ∙ sym c.in-Some.ensures, c.requires.1)
 
 pub returns : goal.returns
 returns c = λ d e.
     let same : c.in-Some.version ≡ d.version = pass_once (c.in-Some.ensures ∙ ap version_of c.half.ensures ∙ (opened_to c.args.deck.now d e).0.version) in
-    renamed (ap (λ (v : Version). card_lines v 1 d.cards) same) (c.card_lines.ensures d e)
+    c.card_lines.ensures d e ∙ ap (λ (v : Version). written c.args.page.now (card_lines v 1 d.cards)) same

@@ -1,12 +1,13 @@
 -- `listing::write` meets its contract: the line of the refusal, which is one of the contents, since the list has 256 places; or the cards' lines,
 -- the totals' and those of mean and worst, one behind the other.
-use mathlib.Core.Path.{◌≡◌, sym, ap, ◌∙◌}
+use mathlib.Core.Path.{◌≡◌, refl, sym, ap, ◌∙◌}
 use mathlib.Core.List.{List, [], ◌∷◌}
 use Prim.Native.Nat.{ℕ, ◌+◌}
 use native.Mathlib.Omega.{arith}
 use lib.ListN.{replicate}
 use Rattle.pieces.specs.Pieces.{joined}
-use Rattle.pieces.proofs.Puts.{puts, last, renamed, wrote}
+use Rattle.pieces.specs.Page.{written}
+use Rattle.pieces.proofs.Pages.{pages}
 use Rattle.rows.specs.Rows.{refuse}
 use Rattle.contents.specs.Contents.{most_cards, deck_in}
 use Rattle.ruling.specs.Said.{reason_number}
@@ -45,14 +46,14 @@ overflow_add-count c = let a = accepted (goal.at.overflow_add-count c).In-Ok in 
 pub overflow_add-count-in-Ok : goal.overflow_add-count-in-Ok
 overflow_add-count-in-Ok c = let a = accepted (goal.at.overflow_add-count-in-Ok c).In-Ok in omega (arith, a.as_many, a.few)
 
-pub cards-shown-requires : goal.cards-shown-requires
-cards-shown-requires c = judged (accepted (goal.at.cards-shown-requires c).In-Ok) c.in-Ok.ensures.verdicts_after
+pub cards-requires : goal.cards-requires
+cards-requires c = (judged (accepted (goal.at.cards-requires c).In-Ok) c.in-Ok.ensures.verdicts_after, c.requires)
 
 pub returns-in-Err : goal.returns-in-Err
 returns-in-Err c = let deck = c.args.deck.now in
     let contents = refused_contents deck most_cards (reason_number c.in-Err.why) (omega arith) (sym c.in-Err.ensures.result_value) in
-    renamed (ap refused_line c.number.ensures ∙ only_line deck contents) (wrote (c.refused.ensures.value, c.refused.ensures.page_after))
+    c.refused.ensures ∙ ap (written c.args.page.now) (ap refused_line c.number.ensures ∙ only_line deck contents)
 
 pub returns-in-Ok : goal.returns-in-Ok
 returns-in-Ok c = let a = accepted (goal.at.returns-in-Ok c).In-Ok in
-    renamed (all_lines a) (puts (c.cards-shown.ensures a.is a.deck_is) (puts (wrote (c.totals_line-totalled.ensures.value, c.totals_line-totalled.ensures.page_after)) (last (wrote (c.residual_lines.ensures.value, c.residual_lines.ensures.page_after)))))
+    rw (c.residual_lines.ensures, c.totals_line.ensures, c.cards.ensures a.is a.deck_is, sym (all_lines a)) (simp pages refl)
