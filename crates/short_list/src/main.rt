@@ -5,6 +5,7 @@
 
 ghost use Rattle.std.specs.Prelude.{◌≤◌};
 
+use pieces::Page;
 use std::io::Write;
 
 // One byte more than the largest deck has.
@@ -19,6 +20,7 @@ fn main(rt: HostRuntime) {
     }
 }
 
+#[tactic(auto, using(pieces::proofs::Pages::pages))]
 fn check_in<W: Write>(output: &mut W, deck: &[u8], room: usize)
     requires { room ≤ 5 }
 {
@@ -27,15 +29,20 @@ fn check_in<W: Write>(output: &mut W, deck: &[u8], room: usize)
         Ok(_) => 0,
         Err(why) => why.number(),
     };
-    let mut page = [0u8; 128];
-    let mut end = pieces::put(&mut page, 0, b"room");
-    end = text::count(&mut page, end, room as u32);
-    end = pieces::put(&mut page, end, b" deck");
-    end = text::count(&mut page, end, number);
-    end = pieces::put(&mut page, end, b" list");
+    let mut space = [0u8; 128];
+    let mut page = Page {
+        bytes: &mut space,
+        at: 0,
+    };
+    pieces::put(&mut page, b"room");
+    text::count(&mut page, room as u32);
+    pieces::put(&mut page, b" deck");
+    text::count(&mut page, number);
+    pieces::put(&mut page, b" list");
     for place in list {
-        end = text::count(&mut page, end, place);
+        text::count(&mut page, place);
     }
-    end = pieces::put(&mut page, end, b"\n");
-    stdio::write(output, &page[..end]);
+    pieces::put(&mut page, b"\n");
+    let end = page.at;
+    stdio::write(output, &space[..end]);
 }
