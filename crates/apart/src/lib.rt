@@ -21,7 +21,8 @@ use ruling::Reason;
 use version::Version;
 
 // Takes a deck apart: the kinds and the fields of its cards, each at the front of its list. Answers the
-// version of the deck, how many cards it has and the bytes that their fields take, or why it is refused.
+// version of the deck, how many cards it has and the bytes that their fields take, or why it is refused. Kinds
+// are numbers, as they are given to be written.
 pub fn take(
     deck: &[u8],
     kinds: &mut [u32],

@@ -20,7 +20,8 @@ use version::Version;
 pub const MOST_FIELDS: usize = contents::MOST_CARDS * card::FIELDS;
 
 // Puts version, count and entries of a deck of cards with these kinds into a page, as far as it goes: the
-// entries up to the first number that names no kind, and nothing for more than 256 kinds.
+// entries up to the first number that names no kind, and nothing for more than 256 kinds. Kinds are numbers, as
+// they are given to be written.
 pub fn put_contents(version: Version, kinds: &[u32], page: &mut Page)
     ensures { page.new ≡ written page.old (contents_for version kinds.now) }
 {

@@ -27,7 +27,8 @@ pub fn block(asked: Question) -> usize
     at_a_time(asked) * line::width(asked)
 }
 
-// As many records as are answered at a time: of a root's turns, which take many lines, one.
+// As many records as are answered at a time: of a root's turns, which take many lines, one. A match, and no
+// trait: the definitions go by what is asked.
 fn at_a_time(asked: Question) -> usize
     ensures { result ≡ block_records asked }
 {

@@ -13,7 +13,7 @@ ghost use Rattle.reply.specs.Reply.{refused_line, page_after, end_after};
 use pieces::Page;
 use ruling::Reason;
 
-// The line of a refused deck, `deck NUMBER`, in a page, as far as it goes.
+// The line of a refused deck, `deck NUMBER`, in a page, as far as it goes. Its clause holds for any number.
 #[tactic(auto, using(pieces::proofs::Pages::pages))]
 pub fn refused(number: u32, page: &mut Page)
     ensures { page.new ≡ written page.old (refused_line number) }

@@ -19,7 +19,8 @@ use ruling::Reason;
 use version::Version;
 
 // Writes the cards with these kinds and these fields, which have this form, one card's behind the other's
-// and without spares, as a deck of the version with this number at the front of the buffer.
+// and without spares, as a deck of the version with this number at the front of the buffer. Kinds are numbers,
+// since one that names none is refused here, with 34.
 pub fn write(
     number: u32,
     form: u32,
