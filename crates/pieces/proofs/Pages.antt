@@ -1,5 +1,5 @@
 -- Laws of writing into a page: pieces one behind the other are one piece; and what is lent at the end.
-use mathlib.Core.Path.{◌≡◌, refl, sym, ap, ◌∙◌}
+use mathlib.Core.Path.{◌≡◌, refl, sym, ap, subst, ◌∙◌}
 use mathlib.Core.List.{List, [], ◌∷◌, ◌++◌, append-nil, append_assoc}
 use Prim.Native.Nat.{ℕ, ◌≤◌}
 use lib.ListN.{length}
@@ -50,6 +50,14 @@ as_put p s e = record { ends = ap (λ (r : Page). r.at) e; holds = ap (λ (r : P
 -- and in what it lent, once that is given back
 pub given_back : (p : Page) (s : List ℕ) {q : Page} {out : List ℕ} → q ≡ written p s → out ≡ q.bytes.now → Put p.bytes.now p.at s out q.at
 given_back p s a e = let put = as_put p s a in record { ends = put.ends; holds = e ∙ put.holds }
+
+-- two pieces of which the one behind is written first, on a page that begins at its first byte
+pub under : (p : Page) (s t : List ℕ) {q r : Page} → p.at ≡ 0 → q ≡ written (record p { at = length s }) t → r ≡ written (record q { at = 0 }) s → record r { at = q.at } ≡ written p (s ++ t)
+unfolding written
+under p s t {q} {r} z a b =
+    let put = laws.under {s = s} (as_put (record p { at = length s }) t a) (as_put (record q { at = 0 }) s b) in
+    let same : r.bytes ≡ record p.bytes { now = r.bytes.now } = ap (λ (x : Page). record x.bytes { now = r.bytes.now }) b ∙ ap (λ (x : Page). record x.bytes { now = r.bytes.now }) a in
+    ap (λ b. record p { bytes = b; at = q.at }) same ∙ fields {p = p} {s = s ++ t} {after = r.bytes.now} {end = q.at} (subst (λ (at : ℕ). Put p.bytes.now at (s ++ t) r.bytes.now q.at) (sym z) put)
 
 -- no piece at all leaves a page as it is, if its place is inside
 pub nothing : (p : Page) → p.at ≤ length p.bytes.now → written p [] ≡ p

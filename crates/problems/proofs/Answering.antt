@@ -8,8 +8,11 @@ use native.Mathlib.Omega.{arith}
 use lib.ListN.{length, take, drop, set, length-drop}
 use lib.Seq.{drop-drop}
 use Rattle.pieces.specs.Pieces.{Put}
+use Rattle.pieces.specs.declared.Page.{Page}
+use Rattle.pieces.specs.Page.{written}
 use Rattle.pieces.proofs.Puts as pieces
 use Rattle.pieces.proofs.Puts.{puts, none, renamed, at_once}
+use Rattle.pieces.proofs.Pages.{two, nothing}
 use Rattle.rows.specs.Rows.{pass}
 use Rattle.version.specs.declared.Version.{Version}
 use Rattle.card.specs.declared.Kind.{Kind}
@@ -17,7 +20,7 @@ use Rattle.card.specs.Fields.{Card, kind_number, given_size}
 use Rattle.layout.specs.Layout.{bodies_of}
 use Rattle.layout.specs.Packed.{kinds_of}
 use Rattle.layout.proofs.Packed.{kinds_behind, bodies_behind}
-use Rattle.predicted.specs.Predicted.{card_of, first_card, placed_in, with_body}
+use Rattle.predicted.specs.Predicted.{card_of, first_card, kind_placed, with_body}
 use Rattle.predicted.proofs.First.{placed}
 use Rattle.problems.specs.Problems.{cards_for}
 use Rattle.problems.proofs.Widths.{one_left}
@@ -32,13 +35,13 @@ last_card v (suc i) problems =
     let there : drop (w * i) (drop w problems) ≡ drop (w * suc i) problems = drop-drop (w * i) w problems ∙ ap (λ (n : ℕ). drop n problems) (sym next) in
     ap (λ (l : List Card). card_of (take w problems) ∷ l) (last_card v i (drop w problems) ∙ ap (λ (l : List ℕ). cards_for v i (drop w problems) ++ (card_of (take w l) ∷ [])) there)
 
-pub record Answering (v : Version) (problems kinds₀ page₀ : List ℕ) (from : ℕ) (kinds page : List ℕ) (i end : ℕ) : Type 0 where
+pub record Answering (v : Version) (problems kinds₀ : List ℕ) (start : Page) (kinds : List ℕ) (page : Page) (i : ℕ) : Type 0 where
   pub listed : Put kinds₀ 0 (kinds_of (cards_for v i problems)) kinds i
-  pub laid : Put page₀ from (bodies_of (cards_for v i problems)) page end
+  pub laid : page ≡ written start (bodies_of (cards_for v i problems))
 
-pub start : (v : Version) (problems kinds page : List ℕ) (from : ℕ) → from ≤ length page → Answering v problems kinds page from kinds page 0 from
+pub start : (v : Version) (problems kinds : List ℕ) (page : Page) → page.at ≤ length page.bytes.now → Answering v problems kinds page kinds page 0
 unfolding cards_for bodies_of
-start v problems kinds page from h = record { listed = none (omega arith); laid = none h }
+start v problems kinds page h = record { listed = none (omega arith); laid = sym (nothing page h) }
 
 -- a problem has bytes
 pub some : (v : Version) → 0 < given_size v
@@ -57,17 +60,17 @@ module _ (v : Version) (problems : List ℕ) (i : ℕ) (left : i < length proble
   next_card = sym (last_card v i problems) ∙ ap (λ (n : ℕ). cards_for v n problems) (sym (add-one i))
 
   -- a problem is answered
-  pub turn : {kinds₀ page₀ : List ℕ} {from : ℕ} {kinds page : List ℕ} {end : ℕ} → Answering v problems kinds₀ page₀ from kinds page i end
-      → (n : ℕ) {kind : Kind} {after : List ℕ} {stop : ℕ} → length problems / given_size v ≤ length kinds₀
-      → n ≡ kind_number kind → pass (kind, stop) ≡ placed_in page end (first_card v (drop (given_size v * i) problems)) → after ≡ with_body page end (first_card v (drop (given_size v * i) problems))
-      → Answering v problems kinds₀ page₀ from (set kinds i n) after (i + 1) stop
-  turn {kinds = kinds} {page = page} {end = end} s n most k e w =
+  pub turn : {kinds₀ : List ℕ} {first : Page} {kinds : List ℕ} {page : Page} → Answering v problems kinds₀ first kinds page i
+      → (n : ℕ) {kind : Kind} {after : Page} → length problems / given_size v ≤ length kinds₀
+      → n ≡ kind_number kind → pass kind ≡ kind_placed (first_card v (drop (given_size v * i) problems)) → after ≡ with_body page (first_card v (drop (given_size v * i) problems))
+      → Answering v problems kinds₀ first (set kinds i n) after (i + 1)
+  turn {first = first} {kinds = kinds} {page = page} s n most k e w =
       let cards = cards_for v i problems in
       let card = card_of (take (given_size v) (drop (given_size v * i) problems)) in
-      let p = placed v (drop (given_size v * i) problems) page end whole e w in
+      let p = placed v (drop (given_size v * i) problems) whole page e w in
       let number = ap (λ (m : ℕ). kinds_of cards ++ (m ∷ [])) (k ∙ ap kind_number p.0) in
       let place : i + 1 ≤ length kinds = omega (arith, left, most, pieces.as_long s.listed) in
       record {
         listed = renamed (number ∙ sym (kinds_behind cards card) ∙ ap kinds_of next_card) (puts s.listed (at_once kinds i (n ∷ []) place));
-        laid = renamed (sym (bodies_behind cards card) ∙ ap bodies_of next_card) (puts s.laid p.1);
+        laid = rw (p.1, s.laid, two) (ap (written first) (sym (bodies_behind cards card) ∙ ap bodies_of next_card));
       }

@@ -6,14 +6,14 @@ use native.Mathlib.Omega.{arith}
 use lib.ListN.{length, take, drop, length-drop}
 use lib.Seq.{take_all}
 use Rattle.card.specs.Fields.{given_size}
-use Rattle.predicted.specs.Predicted.{first_card, placed_in, with_body}
+use Rattle.predicted.specs.Predicted.{first_card, kind_placed, with_body}
 use Rattle.predicted.proofs.First.{never_refused}
 use Rattle.problems.proofs.Answering.{start, whole, turn}
 use Rattle.problems.proofs.answer.Goals as goal
 use Rattle.problems.proofs.answer.Goals.{After-put}
 
 pub loop-i-init : goal.loop-i-init
-loop-i-init c = start c.args.version c.args.problems.now c.args.kinds.now c.args.page.now c.args.start c.requires.1
+loop-i-init c = start c.args.version c.args.problems.now c.args.kinds.now c.args.page.now c.requires.1
 
 -- a problem is left, and those from it on are lent
 left : (c : After-put) → c.loop-i.i < length c.args.problems.now / given_size c.args.version
@@ -30,12 +30,12 @@ returns-in_default c =
     let v = c.args.version in
     let problems = c.args.problems.now in
     let there = (goal.at.returns-in_default c).After-put in
-    absurd (never_refused v (drop (given_size v * c.loop-i.i) problems) c.loop-i.page c.loop-i.end (whole v problems c.loop-i.i (left there)) (c.in_default.ensures.result_value ∙ ap (λ (l : List ℕ). placed_in c.loop-i.page c.loop-i.end (first_card v l)) (lent there)))
+    absurd (never_refused v (drop (given_size v * c.loop-i.i) problems) (whole v problems c.loop-i.i (left there)) (c.in_default.ensures.result_value ∙ ap (λ (l : List ℕ). kind_placed (first_card v l)) (lent there)))
 
 pub loop-i-preserved : goal.loop-i-preserved
 loop-i-preserved c =
     let v = c.args.version in
     let there = (goal.at.loop-i-preserved c).After-put in
-    let told = c.in-Ok.ensures.result_value ∙ ap (λ (l : List ℕ). placed_in c.loop-i.page c.loop-i.end (first_card v l)) (lent there) in
-    let written = c.in-Ok.ensures.out_after ∙ ap (λ (l : List ℕ). with_body c.loop-i.page c.loop-i.end (first_card v l)) (lent there) in
+    let told = c.in-Ok.ensures.result_value ∙ ap (λ (l : List ℕ). kind_placed (first_card v l)) (lent there) in
+    let written = c.in-Ok.ensures.page_after ∙ ap (λ (l : List ℕ). with_body c.loop-i.page (first_card v l)) (lent there) in
     turn v c.args.problems.now c.loop-i.i (left there) c.loop-i.invariant c.number.result c.requires.0 c.number.ensures told written

@@ -3,4 +3,4 @@ use Rattle.problems.proofs.Answering.{Answering}
 use Rattle.problems.proofs.answer.Given as goal
 
 abbrev pub invariant-loop-i : goal.invariant-loop-i
-invariant-loop-i l = Answering l.version l.problems l.initial.kinds l.initial.page l.start l.kinds l.page l.i l.end
+invariant-loop-i l = Answering l.version l.problems l.initial.kinds l.initial.page l.kinds l.page l.i
