@@ -10,6 +10,7 @@
 
 ghost use Rattle.std.specs.Prelude.{◌≤◌, length};
 
+use pieces::Page;
 use ruling::Reason;
 use std::io::{Read, Write};
 
@@ -126,12 +127,17 @@ fn kept<T: Copy + PartialEq>(list: &[T], value: T) -> u32
 
 // A line: the word, the refusal, what was kept.
 fn tell<W: Write>(output: &mut W, word: &[u8], number: u32, left: u32) {
-    let mut page = [0u8; 64];
-    let mut end = pieces::put(&mut page, 0, word);
-    end = pieces::put(&mut page, end, b" deck");
-    end = text::count(&mut page, end, number);
-    end = pieces::put(&mut page, end, b" kept");
-    end = text::count(&mut page, end, left);
-    end = pieces::put(&mut page, end, b"\n");
-    stdio::write(output, &page[..end]);
+    let mut space = [0u8; 64];
+    let mut page = Page {
+        bytes: &mut space,
+        at: 0,
+    };
+    pieces::put(&mut page, word);
+    pieces::put(&mut page, b" deck");
+    text::count(&mut page, number);
+    pieces::put(&mut page, b" kept");
+    text::count(&mut page, left);
+    pieces::put(&mut page, b"\n");
+    let end = page.at;
+    stdio::write(output, &space[..end]);
 }
