@@ -23,6 +23,7 @@ class Function:
         self.ensures = ensures  # the text of each clause, without its name
         self.uses = uses  # what `ghost use` brings: name -> (module, name there)
         parameters, self.answers, self.bounds = head  # .. whether it has a result, and its parameters of type, if any
+        self.types = re.findall(r"(\w+): ", self.bounds or "")
         parameters = re.sub(r"&\s+", "&", parameters)
         self.parameters = re.findall(r"(\w+): ", parameters) + ["self"] * bool(re.match(r"(mut )?self\b", parameters))
         self.references = re.findall(r"(\w+): &", parameters)
@@ -128,7 +129,7 @@ def functions_in(file, prefix, folder, public):
         if re.match(r"\s*(pub(\(\w+\))? )?mod .*\{", line):
             raise Unread(f"a module in braces, '{line.strip()}': give it a file")
         item = re.match(r"( *)pub (.*)", line)
-        if not item or re.match(r"(struct|enum) |const \w+: |\w+: ", item[2]):
+        if not item or re.match(r"(struct|enum|trait|type) |const \w+: |\w+: ", item[2]):
             continue
         module = re.fullmatch(r"mod (\w+);", item[2])
         if module and not item[1]:
@@ -167,7 +168,7 @@ class Equation:
     def __init__(self, text, of, through):
         self.text = text  # as the source has it
         self.of = of  # "" for the result, else the name of what is lent
-        self.through = through  # the map that says what a result is, as the source names it, or ""
+        self.through = through  # the map that says what a result is, as the source names it, and what it is applied to; or nothing
 
 
 def sides(text):
@@ -189,7 +190,7 @@ def defined(function, words):
     plain = set(function.parameters) - set(function.references)
     given = {f"{name}.{'old' if name in function.lent else 'now'}" for name in function.references}
     for word in words:
-        if word in ("(", ")") or word.isdecimal() or word in plain | given:
+        if word in ("(", ")") or word.isdecimal() or word in plain | given or word.partition(".")[0] in function.types:
             continue
         if word in function.references or word.partition(".")[0] in function.references or not place_of(function.uses, word):
             raise Unread(f"'{word}' on its right side is nothing that was given or brought")
@@ -201,13 +202,11 @@ def equation(function, clause):
     if "result" in right or any(re.search(r"\.new$", word) for word in right):
         raise Unread("the right side names the result, or something at exit")
     defined(function, right)
-    if left == ["result"]:
-        return Equation(clause, "", "")
-    if len(left) == 2 and left[1] == "result":
-        return Equation(clause, "", left[0])
+    if left[-1] == "result" and len(left) <= 3 and not {"(", ")"} & set(left):
+        return Equation(clause, "", tuple(left[:-1]))
     if len(left) == 1 and left[0].endswith(".new"):
-        return Equation(clause, left[0][:-len(".new")], "")
-    raise Unread("the left side is neither result, nor S result, nor p.new")
+        return Equation(clause, left[0][:-len(".new")], ())
+    raise Unread("the left side is neither result, nor S result, nor S X result, nor p.new")
 
 
 def equations_of(function, fault):

@@ -1,25 +1,24 @@
--- Taking apart what was written gives the same version and cards, with the kinds and the fields that they were written from. And what the answer of `take`
--- says can be undone, so `said` is one to one, and its contract has one answer.
-use mathlib.Core.Path.{◌≡◌, refl, ap}
+-- Taking apart what was written gives the same version and cards, with the kinds and the fields that they were written from. And an answer of
+-- `take` says one thing, since the number of a reason names the reason, so its contract has one answer.
+use mathlib.Core.Path.{◌≡◌, ap}
 use mathlib.Core.List.{List}
 use Prim.Native.Nat.{ℕ, ◌≤◌}
 use native.Mathlib.Omega.{arith}
 use lib.ListN.{length}
 use Rattle.coincidence.specs.Coincidence.{OneToOne}
-use Rattle.coincidence.proofs.Laws.{undone}
-use Rattle.rows.specs.Rows.{Checked, pass, refuse}
+use Rattle.rows.specs.Rows.{pass, checked}
+use Rattle.rows.proofs.Laws.{checked_once}
+use Rattle.ruling.specs.Said.{reason_number}
+use Rattle.ruling.proofs.Reasons.{reason_of, reason_is}
 use Rattle.version.specs.declared.Version.{Version}
 use Rattle.version.specs.Version.{version_given}
 use Rattle.contents.specs.Contents.{Deck}
-use Rattle.ruling.proofs.Reasons.{reason_of, reason_is}
 use Rattle.layout.specs.Layout.{deck_of}
 use Rattle.layout.specs.Packed.{finished_deck}
 use Rattle.layout.proofs.Packed.{as_many, packed_sized, same_fields}
 use Rattle.layout.proofs.ReadBack.{read_back}
 use Rattle.layout.proofs.Writing.{finished_means}
-use Rattle.apart.specs.declared.Apart.{Apart}
-use Rattle.apart.specs.declared.Apart.TheVariants as apart
-use Rattle.apart.specs.Apart.{kinds_taken, fields_taken, apart_of, said}
+use Rattle.apart.specs.Apart.{kinds_taken, fields_taken, apart_of}
 use Rattle.apart.proofs.Taking.{Fits, apart_passes}
 
 pub taken_back : (number form : ℕ) (kinds fields : List ℕ) (d : Deck) → finished_deck number form kinds fields ≡ pass d → (places room : ℕ) → length kinds ≤ places → length fields ≤ room
@@ -36,13 +35,5 @@ taken_back number form kinds fields d h places room enough more =
     } in
     (apart_passes (deck_of d) places room fits, F.1, same.0, same.1)
 
-abbrev unsaid : Checked (Version × ℕ × ℕ) → Apart
-unsaid (pass told) = apart.Cards told.0 told.1 told.2
-unsaid (refuse k) = apart.Refused (reason_of k)
-
-unsaid_is : (a : Apart) → unsaid (said a) ≡ a
-unsaid_is (apart.Cards v count size) = refl
-unsaid_is (apart.Refused why) = ap apart.Refused (reason_is why)
-
-pub said_once : OneToOne said
-said_once = undone said unsaid unsaid_is
+pub said_once : OneToOne (checked {A = Version × ℕ × ℕ} reason_number)
+said_once = checked_once reason_number reason_of reason_is

@@ -6,7 +6,10 @@ use Prim.Native.Nat.{ℕ, ◌+◌, ◌*◌, ◌≤◌, ◌<◌}
 use native.Mathlib.Omega.{arith}
 use lib.ListN.{length, take, drop, set, length-append}
 use Rattle.pieces.specs.Pieces.{Put}
+use Rattle.pieces.specs.declared.Page.{Page}
+use Rattle.pieces.specs.Page.{written}
 use Rattle.pieces.proofs.Puts.{puts, none, renamed, at_once, as_long}
+use Rattle.pieces.proofs.Pages.{two, nothing}
 use Rattle.rows.specs.Rows.{pass}
 use Rattle.version.specs.declared.Version.{Version}
 use Rattle.card.specs.declared.Kind.{Kind}
@@ -88,21 +91,20 @@ module _ {v : Version} {deck : List ℕ} {count : ℕ} {before list : List ℕ} 
 
 -- ---- the fields
 
-pub record Putting (v : Version) (deck : List ℕ) (count : ℕ) (before fields : List ℕ) (at end i : ℕ) : Type 0 where
+pub record Putting (v : Version) (deck : List ℕ) (count : ℕ) (start page : Page) (at i : ℕ) : Type 0 where
   pub met : List Card
   pub walk : Meeting v deck count i at met
-  pub put : Put before 0 (fields_of v met) fields end
+  pub put : page ≡ written start (fields_of v met)
 
-pub none_put : (v : Version) (deck : List ℕ) (count : ℕ) (fields : List ℕ) → counted_in deck ≡ pass (v, count) → Putting v deck count fields fields (entry_at count) 0 0
+pub none_put : (v : Version) (deck : List ℕ) (count : ℕ) (page : Page) → counted_in deck ≡ pass (v, count) → page.at ≤ length page.bytes.now → Putting v deck count page page (entry_at count) 0
 unfolding fields_of
-none_put v deck count fields h = record { met = []; walk = set_out v deck count h; put = none (omega arith) }
+none_put v deck count page h inside = record { met = []; walk = set_out v deck count h; put = sym (nothing page inside) }
 
-module _ {v : Version} {deck : List ℕ} {count : ℕ} {before fields : List ℕ} {at end i : ℕ} (s : Putting v deck count before fields at end i) where
-  pub put_on : (kind : Kind) {after : List ℕ} {stop : ℕ} → i < count → kind_at deck i ≡ pass kind → Put fields end (fields_in v kind (take (size_of v kind) (drop at deck))) after stop
-      → Putting v deck count before after (at + size_of v kind) stop (i + 1)
+module _ {v : Version} {deck : List ℕ} {count : ℕ} {start page : Page} {at i : ℕ} (s : Putting v deck count start page at i) where
+  pub put_on : (kind : Kind) {after : Page} → i < count → kind_at deck i ≡ pass kind → after ≡ written page (fields_in v kind (take (size_of v kind) (drop at deck))) → Putting v deck count start after (at + size_of v kind) (i + 1)
   put_on kind h e p =
       let card = card_at v deck kind at in
-      record { met = s.met ++ (card ∷ []); walk = walk_on s.walk kind h e; put = renamed (sym (fields_behind v s.met card)) (puts s.put p) }
+      record { met = s.met ++ (card ∷ []); walk = walk_on s.walk kind h e; put = rw (p, s.put, two) (ap (written start) (sym (fields_behind v s.met card))) }
 
-  pub all_put : count ≤ i → (d : Deck) → deck_in deck ≡ pass d → Put before 0 (fields_taken d) fields end
-  all_put h d e = renamed (ap fields_taken (all_met s.walk h d e)) s.put
+  pub all_put : count ≤ i → (d : Deck) → deck_in deck ≡ pass d → page ≡ written start (fields_taken d)
+  all_put h d e = s.put ∙ ap (λ (l : Deck). written start (fields_taken l)) (all_met s.walk h d e)

@@ -3,10 +3,7 @@ use Rattle.std.specs.Prelude.{ℕ, ◌&&◌, List, ◌++◌, leb, length, drop}
 use Rattle.rows.specs.Rows.{Checked, pass, refuse, must, onward}
 use Rattle.version.specs.declared.Version.{Version}
 use Rattle.contents.specs.Contents.{Deck, deck_in}
-use Rattle.ruling.specs.Said.{reason_number}
 use Rattle.layout.specs.Packed.{kinds_of, fields_of}
-use Rattle.apart.specs.declared.Apart.{Apart}
-use Rattle.apart.specs.declared.Apart.TheVariants as apart
 
 -- the kinds and the fields of a deck's cards
 abbrev pub kinds_taken : Deck → List ℕ
@@ -30,8 +27,3 @@ sizes_of m = onward m (λ d. pass (d.version, length d.cards, length (fields_tak
 abbrev pub with_taken : (taken : Deck → List ℕ) → Checked Deck → (list : List ℕ) → List ℕ
 with_taken taken (pass d) list = taken d ++ drop (length (taken d)) list
 with_taken taken (refuse k) list = list
-
--- an answer's version and two sizes, or the number of its refusal
-abbrev pub said : Apart → Checked (Version × ℕ × ℕ)
-said (apart.Cards v count size) = pass (v, count, size)
-said (apart.Refused why) = refuse (reason_number why)

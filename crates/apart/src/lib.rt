@@ -5,55 +5,53 @@
 #![tactic(auto)]
 
 ghost use Rattle.std.specs.Prelude.{◌≡◌, ◌≤◌, length};
-ghost use Rattle.rows.specs.Rows.{pass};
+ghost use Rattle.rows.specs.Rows.{pass, checked};
 ghost use Rattle.pieces.specs.Pieces.{Put};
+ghost use Rattle.pieces.specs.Page.{written};
 ghost use Rattle.card.specs.Fields.{size_of};
 ghost use Rattle.card.specs.Made.{rest_from, fields_in};
 ghost use Rattle.version.specs.declared.Version.{Version};
 ghost use Rattle.contents.specs.Contents.{Deck, deck_in, counted_in};
-ghost use Rattle.apart.specs.Apart.{kinds_taken, fields_taken, apart_of, sizes_of, with_taken, said};
+ghost use Rattle.apart.specs.Apart.{kinds_taken, fields_taken, apart_of, sizes_of, with_taken};
+ghost use Rattle.ruling.specs.Said.{reason_number};
 
-use card::{Kind, Named};
-use contents::Contents;
+use card::Kind;
+use pieces::Page;
 use ruling::Reason;
 use version::Version;
 
-// The version of a deck, how many cards it has and the bytes that their fields take, or why it is refused.
-#[derive(Clone, Copy)]
-pub enum Apart {
-    Cards(Version, u32, usize),
-    Refused(Reason),
-}
-
-// Takes a deck apart: the kinds and the fields of its cards, each at the front of its list.
-pub fn take(deck: &[u8], kinds: &mut [u32], fields: &mut [u8]) -> Apart
-    ensures result_value { said result ≡ sizes_of (apart_of deck.now (length kinds.old) (length fields.old)) }
+// Takes a deck apart: the kinds and the fields of its cards, each at the front of its list. Answers the
+// version of the deck, how many cards it has and the bytes that their fields take, or why it is refused. Kinds
+// are numbers, as they are given to be written.
+pub fn take(
+    deck: &[u8],
+    kinds: &mut [u32],
+    fields: &mut [u8],
+) -> Result<(Version, u32, usize), Reason>
+    ensures result_value { checked reason_number result ≡ sizes_of (apart_of deck.now (length kinds.old) (length fields.old)) }
     ensures kinds_after { kinds.new ≡ with_taken kinds_taken (apart_of deck.now (length kinds.old) (length fields.old)) kinds.old }
     ensures fields_after { fields.new ≡ with_taken fields_taken (apart_of deck.now (length kinds.old) (length fields.old)) fields.old }
 {
-    let sizes = measured(deck, kinds.len(), fields.len());
-    let Apart::Cards(version, count, _) = sizes else {
-        return sizes;
-    };
+    let (version, count, size) = measured(deck, kinds.len(), fields.len())?;
     list_kinds(deck, count, kinds);
-    put_all(deck, version, count, fields);
-    sizes
+    let mut page = Page {
+        bytes: fields,
+        at: 0,
+    };
+    put_all(deck, version, count, &mut page);
+    Ok((version, count, size))
 }
 
 // Version and sizes, or why the deck is refused, with so many places for kinds and so much room for fields.
-fn measured(deck: &[u8], places: usize, room: usize) -> Apart
-    ensures { said result ≡ sizes_of (apart_of deck.now places room) }
+fn measured(deck: &[u8], places: usize, room: usize) -> Result<(Version, u32, usize), Reason>
+    ensures { checked reason_number result ≡ sizes_of (apart_of deck.now places room) }
 {
-    match contents::tested(deck) {
-        Contents::Refused(why) => Apart::Refused(why),
-        Contents::Cards(version, count) => {
-            let size = summed(deck, version, count);
-            if ((count as usize) <= places) & (size <= room) {
-                Apart::Cards(version, count, size)
-            } else {
-                Apart::Refused(Reason::NoRoom)
-            }
-        }
+    let (version, count) = contents::tested(deck)?;
+    let size = summed(deck, version, count);
+    if ((count as usize) <= places) & (size <= room) {
+        Ok((version, count, size))
+    } else {
+        Err(Reason::NoRoom)
     }
 }
 
@@ -63,13 +61,11 @@ fn summed(deck: &[u8], version: Version, count: u32) -> usize
     ensures { (d : Deck) → deck_in deck.now ≡ pass d → result ≡ length (fields_taken d) }
 {
     let mut sum = 0;
-    let mut i = 0;
-    while i < count {
-        let Named::Kind(kind) = contents::kind_at(deck, i) else {
+    for i in 0..count {
+        let Some(kind) = contents::kind_at(deck, i) else {
             return sum;
         };
         sum += kind.packed(version);
-        i += 1;
     }
     sum
 }
@@ -79,45 +75,39 @@ fn list_kinds(deck: &[u8], count: u32, kinds: &mut [u32])
     requires { ((v : Version) × (counted_in deck.now ≡ pass (v, count))) × (count ≤ length kinds.old) }
     ensures { (d : Deck) → deck_in deck.now ≡ pass d → Put kinds.old 0 (kinds_taken d) kinds.new count }
 {
-    let mut i = 0;
-    while i < count {
-        let Named::Kind(kind) = contents::kind_at(deck, i) else {
+    for i in 0..count {
+        let Some(kind) = contents::kind_at(deck, i) else {
             return;
         };
         kinds[i as usize] = kind.number();
-        i += 1;
     }
 }
 
 // The fields of each card, behind those of the card before.
-fn put_all(deck: &[u8], version: Version, count: u32, fields: &mut [u8]) -> usize
-    requires { counted_in deck.now ≡ pass (version, count) }
-    ensures { (d : Deck) → deck_in deck.now ≡ pass d → Put fields.old 0 (fields_taken d) fields.new result }
+fn put_all(deck: &[u8], version: Version, count: u32, page: &mut Page)
+    requires { (counted_in deck.now ≡ pass (version, count)) × (page.old.at ≤ length page.old.bytes.now) }
+    ensures { (d : Deck) → deck_in deck.now ≡ pass d → page.new ≡ written page.old (fields_taken d) }
 {
     let mut at = contents::HEADER + contents::ENTRY * count as usize;
-    let mut end = 0;
-    let mut i = 0;
-    while i < count {
-        let Named::Kind(kind) = contents::kind_at(deck, i) else {
-            return end;
+    for i in 0..count {
+        let Some(kind) = contents::kind_at(deck, i) else {
+            return;
         };
         let next = at + kind.size(version);
-        end = put_fields(version, kind, &deck[at..next], fields, end);
+        put_fields(version, kind, &deck[at..next], page);
         at = next;
-        i += 1;
     }
-    end
 }
 
 // The fields in a body, without its spares.
-fn put_fields(version: Version, kind: Kind, body: &[u8], fields: &mut [u8], at: usize) -> usize
+fn put_fields(version: Version, kind: Kind, body: &[u8], page: &mut Page)
     requires { length body.now ≡ size_of version kind }
-    ensures { Put fields.old at (fields_in version kind body.now) fields.new result }
+    ensures { page.new ≡ written page.old (fields_in version kind body.now) }
 {
-    let problem = pieces::put(fields, at, &body[..card::PROBLEM]);
+    pieces::put(page, &body[..card::PROBLEM]);
     let first = rest_from(kind);
     let last = first + (kind.packed(version) - card::PROBLEM);
-    pieces::put(fields, problem, &body[first..last])
+    pieces::put(page, &body[first..last]);
 }
 
 // Where the rest begins in a body: behind the problem, and behind its spare where there is one.

@@ -1,6 +1,6 @@
--- What an answer says can be undone, since the number of a reason names the reason: `departs` is one to one, and a contract through it has one
--- answer.
-use mathlib.Core.Path.{◌≡◌, refl, ap}
+-- What an answer says can be undone, since the number of a reason names the reason: what a velocity or its refusal says is one to one, and a
+-- contract through it has one answer.
+use mathlib.Core.Path.{◌≡◌, refl}
 use mathlib.Core.Bool.{cond}
 use mathlib.Core.List.{List, [], ◌∷◌}
 use Prim.Native.Nat.{ℕ, ◌-◌}
@@ -8,13 +8,12 @@ use lib.Dec.{ltb}
 use lib.ListN.{get_or}
 use Rattle.coincidence.specs.Coincidence.{OneToOne}
 use Rattle.coincidence.proofs.Laws.{undone}
-use Rattle.rows.specs.Rows.{Checked}
-use Rattle.rows.proofs.Laws.{taken_back}
+use Rattle.rows.specs.Rows.{checked}
+use Rattle.rows.proofs.Laws.{checked_once}
+use Rattle.vectors.specs.declared.Vector.{Vector}
 use Rattle.arc.specs.declared.Reason.{Reason}
 use Rattle.arc.specs.declared.Reason.TheVariants as why
-use Rattle.arc.specs.declared.Departure.{Departure}
-use Rattle.arc.specs.declared.Departure.TheVariants as departure
-use Rattle.arc.specs.Said.{reason_number, departs}
+use Rattle.arc.specs.Said.{reason_number}
 
 -- a reason by its number: a list from 0 on, where 0, 4, 7 and 8 are no transfer's, and one from 50 on
 abbrev low : List Reason
@@ -50,12 +49,9 @@ reason_is why.AngleTooNear = refl
 reason_is why.TooLittleTime = refl
 reason_is why.TooMuchTime = refl
 
-abbrev pub untold : {A B : Type 0} → (B → A) → (Reason → A) → Checked B → A
-untold passed failed c = taken_back passed (λ k. failed (reason_of k)) c
+-- so a number names one reason
+pub reasons_once : OneToOne reason_number
+reasons_once = undone reason_number reason_of reason_is
 
-undeparted : (a : Departure) → untold departure.Velocity departure.Refused (departs a) ≡ a
-undeparted (departure.Velocity v) = refl
-undeparted (departure.Refused r) = ap departure.Refused (reason_is r)
-
-pub departs_once : OneToOne departs
-departs_once = undone departs (untold departure.Velocity departure.Refused) undeparted
+pub departs_once : OneToOne (checked {A = Vector} reason_number)
+departs_once = checked_once reason_number reason_of reason_is

@@ -1,11 +1,7 @@
 -- What the answers say, in the numbers of STEPS, Required velocity. Definitions only.
 use Rattle.std.specs.Prelude.{ℕ}
-use Rattle.vectors.specs.declared.Vector.{Vector}
-use Rattle.rows.specs.Rows.{Checked, pass, refuse}
 use Rattle.arc.specs.declared.Reason.{Reason}
 use Rattle.arc.specs.declared.Reason.TheVariants as why
-use Rattle.arc.specs.declared.Departure.{Departure}
-use Rattle.arc.specs.declared.Departure.TheVariants as departure
 
 -- the number that the table gives to each reason
 abbrev pub reason_number : Reason → ℕ
@@ -19,8 +15,3 @@ reason_number why.LimitReached = 10
 reason_number why.AngleTooNear = 50
 reason_number why.TooLittleTime = 51
 reason_number why.TooMuchTime = 52
-
--- a velocity, or the refusal
-abbrev pub departs : Departure → Checked Vector
-departs (departure.Velocity v) = pass v
-departs (departure.Refused why) = refuse (reason_number why)

@@ -6,10 +6,11 @@
 #![tactic(auto)]
 
 ghost use Rattle.std.specs.Prelude.{◌≡◌};
-ghost use Rattle.arc.specs.Said.{reason_number, departs};
+ghost use Rattle.rows.specs.Rows.{checked};
+ghost use Rattle.arc.specs.Said.{reason_number};
 ghost use Rattle.arc.specs.Arc.{root_or_nan, shape_at, time_at, departure_in, velocity_at};
 
-use root::Answer;
+use search::{Sought, Why};
 use vectors::Vector;
 
 // Which way round: through less than half a turn, or through more.
@@ -68,6 +69,7 @@ pub enum Reason {
 
 impl Reason {
     // Its number in the rules.
+    // No `From`: docs/STATEMENTS.md has the clause, and that it has one result (docs/DECISIONS.md 149).
     pub fn number(self) -> u32
         ensures { result ≡ reason_number self }
     {
@@ -86,15 +88,25 @@ impl Reason {
     }
 }
 
-// The velocity at r1, or why there is none.
-#[derive(Clone, Copy)]
-pub enum Departure {
-    Velocity(Vector),
-    Refused(Reason),
+impl Why for Reason {
+    ghost number = { reason_number };
+
+    fn lost() -> Reason {
+        Reason::NotFinite
+    }
+
+    fn closed() -> Reason {
+        Reason::BracketClosed
+    }
+
+    fn spent() -> Reason {
+        Reason::LimitReached
+    }
 }
 
 impl Scaled {
     // T(z): the scaled time.
+    #[tactic(auto, unfolding(crate::specs::Arc::time_at))]
     pub fn time_at(self, z: f64) -> f64
         ensures { result ≡ time_at self z }
     {
@@ -103,19 +115,46 @@ impl Scaled {
         x * x * x * h.s + self.a * h.g
     }
 
-    // The velocity that z comes to, where every component is finite.
-    pub fn velocity_at(self, z: f64) -> Departure
-        ensures { departs result ≡ velocity_at self z }
+    // The velocity at r1 that z comes to, where every component is finite.
+    #[tactic(auto, unfolding(rows::specs::Rows::must, crate::specs::Arc::velocity_at))]
+    pub fn velocity_at(self, z: f64) -> Result<Vector, Reason>
+        ensures { checked reason_number result ≡ velocity_at self z }
     {
         let v = leaving(self, shape_at(self.rho, self.a, z));
         if !vectors::all_finite(v) {
-            return Departure::Refused(Reason::NotFinite);
+            return Err(Reason::NotFinite);
         }
-        Departure::Velocity(v)
+        Ok(v)
+    }
+}
+
+// What a transfer searches for: the z whose time is t, and the velocity that it comes to.
+impl Sought for Scaled {
+    type Found = Vector;
+
+    type Reason = Reason;
+
+    ghost time_at = { time_at };
+
+    ghost wanted_time = { λ o. o.t };
+
+    ghost found_at = { velocity_at };
+
+    fn time_at(self, z: f64) -> f64 {
+        Scaled::time_at(self, z)
+    }
+
+    fn wanted_time(self) -> f64 {
+        self.t
+    }
+
+    fn found_at(self, z: f64) -> Result<Vector, Reason> {
+        self.velocity_at(z)
     }
 }
 
 // C and S are U2 and U3 at x = 1 with alpha = z.
+#[tactic(auto, unfolding(crate::specs::Arc::shape_by))]
 fn shape_at(rho: f64, a: f64, z: f64) -> Shape
     ensures { result ≡ shape_at rho a z }
 {
@@ -131,13 +170,11 @@ fn shape_at(rho: f64, a: f64, z: f64) -> Shape
 fn root_or_nan(x: f64) -> f64
     ensures { result ≡ root_or_nan x }
 {
-    match root::root(x) {
-        Answer::Root(r) => r,
-        Answer::Refused(_) => 0.0 / 0.0,
-    }
+    root::root(x).unwrap_or(0.0 / 0.0)
 }
 
 // ((d - u*F)/G)/f1, by component.
+#[tactic(auto, unfolding(crate::specs::Arc::departure_in))]
 fn leaving(o: Scaled, h: Shape) -> Vector
     ensures { result ≡ departure_in o h }
 {

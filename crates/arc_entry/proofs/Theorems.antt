@@ -1,20 +1,11 @@
--- What an answer of the tests says can be undone, so `passed_start` is one to one, and the contract through it has one answer.
-use mathlib.Core.Path.{◌≡◌, refl, ap}
+-- What an answer of the tests says can be undone, so the contract through it has one answer.
 use Rattle.coincidence.specs.Coincidence.{OneToOne}
-use Rattle.coincidence.proofs.Laws.{undone}
+use Rattle.rows.specs.Rows.{checked}
+use Rattle.rows.proofs.Laws.{checked_once}
 use Rattle.search.specs.declared.Bracket.{Bracket}
 use Rattle.arc.specs.declared.Scaled.{Scaled}
-use Rattle.arc.proofs.Theorems.{reason_is, untold}
-use Rattle.arc_entry.specs.declared.Start.{Start}
-use Rattle.arc_entry.specs.declared.Start.TheVariants as start
-use Rattle.arc_entry.specs.Said.{passed_start}
+use Rattle.arc.specs.Said.{reason_number}
+use Rattle.arc.proofs.Theorems.{reason_of, reason_is}
 
-abbrev started : Scaled × Bracket → Start
-started e = start.Passed e.0 e.1
-
-unstarted : (a : Start) → untold started start.Refused (passed_start a) ≡ a
-unstarted (start.Passed o b) = refl
-unstarted (start.Refused r) = ap start.Refused (reason_is r)
-
-pub start_once : OneToOne passed_start
-start_once = undone passed_start (untold started start.Refused) unstarted
+pub start_once : OneToOne (checked {A = Scaled × Bracket} reason_number)
+start_once = checked_once reason_number reason_of reason_is

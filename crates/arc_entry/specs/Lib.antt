@@ -1,2 +1,1 @@
-pub mod Said
 pub mod ArcEntry

@@ -6,15 +6,15 @@
 #![tactic(auto)]
 
 ghost use Rattle.std.specs.Prelude.{◌≡◌};
-ghost use Rattle.units.specs.Units.{radius_of, numbered};
-ghost use Rattle.arc_entry.specs.Said.{passed_number, passed_scaled, passed_start};
-ghost use Rattle.arc_entry.specs.ArcEntry.{factor_of, scaled_by, scaled_from, scaled_of, start_by, entry_of};
+ghost use Rattle.rows.specs.Rows.{checked};
+ghost use Rattle.units.specs.Units.{given_tested, radius_of, numbered};
+ghost use Rattle.arc_entry.specs.ArcEntry.{input_number, factor_of, scaled_by, scaled_of, start_by, entry_of};
 ghost use Rattle.arc.specs.Arc.{time_at};
+ghost use Rattle.arc.specs.Said.{reason_number};
 
 use arc::{Reason, Scaled, Transfer, Way};
-use root::Answer;
 use search::{Bracket, Point};
-use units::{Finite, Length, TimeUnit};
+use units::Unmeasured;
 use vectors::Vector;
 
 // 2^-20: where 1 - |c| is less, the angle is too near 0, 180 or 360 degrees.
@@ -23,83 +23,51 @@ const NEAREST: f64 = 9.5367431640625e-07;
 // The upper end of the starting bracket; the lower one is 0.
 const UPPER: f64 = 36.0;
 
-// A scaled transfer with its starting bracket, or why there is none.
-#[derive(Clone, Copy)]
-pub enum Start {
-    Passed(Scaled, Bracket),
-    Refused(Reason),
-}
-
-// A number on the way, or why there is none.
-#[derive(Clone, Copy)]
-enum Number {
-    Passed(f64),
-    Refused(Reason),
-}
-
-// A scaled transfer, or why there is none.
-#[derive(Clone, Copy)]
-enum Scaling {
-    Passed(Scaled),
-    Refused(Reason),
-}
-
 // The tests in their order.
-pub fn entry(q: Transfer) -> Start
-    ensures { passed_start result ≡ entry_of q }
+#[tactic(auto, unfolding(crate::specs::ArcEntry::entry_of, rows::specs::Rows::must, rows::specs::Rows::onward))]
+pub fn entry(q: Transfer) -> Result<(Scaled, Bracket), Reason>
+    ensures { checked reason_number result ≡ entry_of q }
 {
-    let r1 = q.r1;
-    let r2 = q.r2;
-    if let Finite::NotAt(_) = units::given(q.mu, r1, r2, q.dt) {
-        return Start::Refused(Reason::InputNotFinite);
-    }
+    all_given(q)?;
     if !(0.0 < q.mu) {
-        return Start::Refused(Reason::MuNotPositive);
+        return Err(Reason::MuNotPositive);
     }
     if !search::allows(q.limit) {
-        return Start::Refused(Reason::LimitOutOfRange);
+        return Err(Reason::LimitOutOfRange);
     }
-    match scale(q) {
-        Scaling::Passed(o) => started(o),
-        Scaling::Refused(why) => Start::Refused(why),
-    }
+    started(scaled(q)?)
 }
 
-// Both radii, then what is made of them.
-fn scale(q: Transfer) -> Scaling
-    ensures { passed_scaled result ≡ scaled_of q }
+// The numbers given are finite; which one is not has no number of its own.
+fn all_given(q: Transfer) -> Result<(), Reason>
+    ensures { checked reason_number result ≡ given_tested input_number q.mu q.r1 q.r2 q.dt }
 {
-    match radius(q.r1) {
-        Number::Refused(why) => Scaling::Refused(why),
-        Number::Passed(r0) => match radius(q.r2) {
-            Number::Refused(why) => Scaling::Refused(why),
-            Number::Passed(m2) => scale_from(q, r0, m2),
-        },
-    }
+    units::given(q.mu, q.r1, q.r2, q.dt).map_err(|_| Reason::InputNotFinite)
 }
 
-fn radius(r: Vector) -> Number
-    ensures { passed_number result ≡ numbered 5 6 (radius_of r) }
+// The scaled transfer: both radii, the unit of time, then what is made of them.
+#[tactic(auto, unfolding(crate::specs::ArcEntry::scaled_of, crate::specs::ArcEntry::scaled_from, rows::specs::Rows::onward))]
+fn scaled(q: Transfer) -> Result<Scaled, Reason>
+    ensures { checked reason_number result ≡ scaled_of q }
 {
-    match units::radius(r) {
-        Length::Measured(m) => Number::Passed(m),
-        Length::Unusable => Number::Refused(Reason::NoRadius),
-        Length::RootRefused => Number::Refused(Reason::NotFinite),
-    }
+    let r0 = radius(q.r1)?;
+    let m2 = radius(q.r2)?;
+    let (f1, f4) = units::time_unit(q.mu, r0).map_err(|_| Reason::NotFinite)?;
+    scale_by(q, r0, m2, f1, f4)
 }
 
-fn scale_from(q: Transfer, r0: f64, m2: f64) -> Scaling
-    ensures { passed_scaled result ≡ scaled_from q r0 m2 }
+fn radius(r: Vector) -> Result<f64, Reason>
+    ensures { checked reason_number result ≡ numbered 5 6 (radius_of r) }
 {
-    match units::time_unit(q.mu, r0) {
-        TimeUnit::Unusable => Scaling::Refused(Reason::NotFinite),
-        TimeUnit::RootRefused => Scaling::Refused(Reason::NotFinite),
-        TimeUnit::Measured(f1, f4) => scale_by(q, r0, m2, f1, f4),
-    }
+    units::radius(r).map_err(|why| match why {
+        Unmeasured::Unusable => Reason::NoRadius,
+        Unmeasured::RootRefused => Reason::NotFinite,
+    })
 }
 
-fn scale_by(q: Transfer, r0: f64, m2: f64, f1: f64, f4: f64) -> Scaling
-    ensures { passed_scaled result ≡ scaled_by q r0 m2 f1 f4 }
+#[tactic(auto, unfolding(crate::specs::ArcEntry::scaled_by, rows::specs::Rows::must, rows::specs::Rows::onward))]
+fn scale_by(q: Transfer, r0: f64, m2: f64, f1: f64, f4: f64) -> Result<Scaled, Reason>
+    ensures { checked reason_number result ≡ scaled_by q r0 m2 f1 f4 }
 {
     let way = q.way;
     let t = q.dt / f4;
@@ -115,56 +83,54 @@ fn scale_by(q: Transfer, r0: f64, m2: f64, f1: f64, f4: f64) -> Scaling
         & exact::finite(rho)
         & exact::finite(c))
     {
-        return Scaling::Refused(Reason::NotFinite);
+        return Err(Reason::NotFinite);
     }
-    match factor(way, rho, c) {
-        Number::Refused(why) => Scaling::Refused(why),
-        Number::Passed(a) => Scaling::Passed(Scaled {
-            t,
-            rho,
-            a,
-            f1,
-            f4,
-            u,
-            d,
-        }),
-    }
+    let a = factor(way, rho, c)?;
+    Ok(Scaled {
+        t,
+        rho,
+        a,
+        f1,
+        f4,
+        u,
+        d,
+    })
 }
 
 // A, where the angle is not too near 0, 180 or 360 degrees.
-fn factor(way: Way, rho: f64, c: f64) -> Number
-    ensures { passed_number result ≡ factor_of way rho c }
+#[tactic(auto, unfolding(crate::specs::ArcEntry::factor_of, units::specs::Units::rooted, rows::specs::Rows::must, rows::specs::Rows::onward))]
+fn factor(way: Way, rho: f64, c: f64) -> Result<f64, Reason>
+    ensures { checked reason_number result ≡ factor_of way rho c }
 {
     if 1.0 - exact::absolute(c) < NEAREST {
-        return Number::Refused(Reason::AngleTooNear);
+        return Err(Reason::AngleTooNear);
     }
-    let Answer::Root(k) = root::root(rho * (1.0 + c)) else {
-        return Number::Refused(Reason::NotFinite);
-    };
+    let k = root::root(rho * (1.0 + c)).map_err(|_| Reason::NotFinite)?;
     match way {
-        Way::Short => Number::Passed(k),
-        Way::Long => Number::Passed(-k),
+        Way::Short => Ok(k),
+        Way::Long => Ok(-k),
     }
 }
 
 // The starting bracket, where the wanted time lies between the times of its ends.
-fn started(o: Scaled) -> Start
-    ensures { passed_start result ≡ start_by time_at o }
+#[tactic(auto, unfolding(crate::specs::ArcEntry::start_by, rows::specs::Rows::must))]
+fn started(o: Scaled) -> Result<(Scaled, Bracket), Reason>
+    ensures { checked reason_number result ≡ start_by time_at o }
 {
     let t = o.t;
     let first = o.time_at(0.0);
     if !exact::finite(first) {
-        return Start::Refused(Reason::NotFinite);
+        return Err(Reason::NotFinite);
     }
     if t < first {
-        return Start::Refused(Reason::TooLittleTime);
+        return Err(Reason::TooLittleTime);
     }
     let last = o.time_at(UPPER);
     if !exact::finite(last) {
-        return Start::Refused(Reason::NotFinite);
+        return Err(Reason::NotFinite);
     }
     if last < t {
-        return Start::Refused(Reason::TooMuchTime);
+        return Err(Reason::TooMuchTime);
     }
     let lo = Point {
         x: 0.0,
@@ -174,5 +140,5 @@ fn started(o: Scaled) -> Start
         x: UPPER,
         time: last,
     };
-    Start::Passed(o, Bracket { lo, hi })
+    Ok((o, Bracket { lo, hi }))
 }

@@ -1,5 +1,5 @@
 -- The kinds of cards and the fields of a body: RULES, The deck. Definitions only.
-use Rattle.std.specs.Prelude.{ℕ, ◌+◌, ◌-◌, cond, List, eqb, take, drop, Float}
+use Rattle.std.specs.Prelude.{ℕ, ◌+◌, ◌-◌, cond, List, eqb, take, drop, Float, Option, Some, None}
 use Rattle.exact.specs.Numbers.{number_of}
 use Rattle.words.specs.Words.{value_at}
 use Rattle.vectors.specs.declared.Vector.{Vector}
@@ -9,7 +9,6 @@ use Rattle.version.specs.declared.Version.{Version}
 use Rattle.version.specs.declared.Version.TheVariants as version
 use Rattle.version.specs.Version.{tag_size, largest_tag}
 use Rattle.tag.specs.declared.Tag.{Tag}
-use Rattle.tag.specs.declared.Tag.TheVariants as tag
 use Rattle.tag.specs.Tag.{tag_with}
 use Rattle.arc.specs.declared.Way.{Way}
 use Rattle.arc.specs.declared.Way.TheVariants as way
@@ -114,9 +113,9 @@ abbrev pub vector_at : List ℕ → (at : ℕ) → Vector
 vector_at body at = record { x = number_at body at; y = number_at body (at + 8); z = number_at body (at + 16) }
 
 -- The deck 4 and 10: object and epoch of a card, which version 1 does not have
-unfoldable pub tag_of : Version → Kind → (body : List ℕ) → Tag
-tag_of version.One kind body = tag.Absent
-tag_of version.Two kind body = tag_with (value_at 4 body (tag_at kind)) (value_at 8 body (tag_at kind + 4))
+unfoldable pub tag_of : Version → Kind → (body : List ℕ) → Option Tag
+tag_of version.One kind body = None
+tag_of version.Two kind body = Some (tag_with (value_at 4 body (tag_at kind)) (value_at 8 body (tag_at kind + 4)))
 
 -- The deck 4: mu, r, v, dt, limit u32, spare u32
 unfoldable pub problem_of : List ℕ → Problem

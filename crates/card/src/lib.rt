@@ -6,8 +6,8 @@
 #![tactic(auto)]
 
 ghost use Rattle.std.specs.Prelude.{◌≡◌, ◌≤◌};
-ghost use Rattle.card.specs.Fields.{kind_of, kind_number, given_size, own_size, packed_size, size_of, answer_size, answer_at, tag_at, tag_of, number_at, vector_at, problem_of, transfer_by, transfer_of};
-ghost use Rattle.card.specs.Said.{named, asked};
+ghost use Rattle.rows.specs.Rows.{stated};
+ghost use Rattle.card.specs.Fields.{kind_of, kind_number, given_size, own_size, packed_size, size_of, answer_size, answer_at, tag_at, tag_of, number_at, vector_at, problem_of, transfer_of};
 
 use arc::{Transfer, Way};
 use conic::Problem;
@@ -63,22 +63,9 @@ pub enum Kind {
     Transfer,
 }
 
-// What a number names: a kind, or none.
-#[derive(Clone, Copy)]
-pub enum Named {
-    Kind(Kind),
-    Unknown,
-}
-
-// What a transfer's bytes ask: a transfer, or one whose way is neither 0 nor 1.
-#[derive(Clone, Copy)]
-pub enum Asked {
-    Transfer(Transfer),
-    UnknownWay,
-}
-
 impl Kind {
     // Its number in an entry.
+    // No `From`: docs/STATEMENTS.md has the clause, and that it has one result (docs/DECISIONS.md 149).
     pub fn number(self) -> u32
         ensures { result ≡ kind_number self }
     {
@@ -155,15 +142,15 @@ fn tag_at(kind: Kind) -> usize
     }
 }
 
-// The kind that has this number.
-pub fn kind_of(number: u32) -> Named
-    ensures { named result ≡ kind_of number }
+// The kind that has this number. No `TryFrom`: an Option says that there is none (docs/DECISIONS.md 149).
+pub fn kind_of(number: u32) -> Option<Kind>
+    ensures { stated 34 result ≡ kind_of number }
 {
     match number {
-        1 => Named::Kind(Kind::Solved),
-        2 => Named::Kind(Kind::Refused),
-        3 => Named::Kind(Kind::Transfer),
-        _ => Named::Unknown,
+        1 => Some(Kind::Solved),
+        2 => Some(Kind::Refused),
+        3 => Some(Kind::Transfer),
+        _ => None,
     }
 }
 
@@ -175,14 +162,14 @@ pub fn number(body: &[u8], at: usize) -> f64
 }
 
 // Object and epoch of a card, which version 1 does not have.
-pub fn tag(version: Version, kind: Kind, body: &[u8]) -> Tag
+pub fn tag(version: Version, kind: Kind, body: &[u8]) -> Option<Tag>
     ensures { result ≡ tag_of version kind body.now }
 {
     match version {
-        Version::One => Tag::Absent,
+        Version::One => None,
         Version::Two => {
             let at = tag_at(kind);
-            tag::present(words::half(body, at), words::word(body, at + 4))
+            Some(tag::present(words::half(body, at), words::word(body, at + 4)))
         }
     }
 }
@@ -200,31 +187,25 @@ pub fn problem(body: &[u8]) -> Problem
     }
 }
 
-// The transfer with which a body begins, as numbers: every NaN word gives NaN.
-pub fn transfer(body: &[u8]) -> Asked
-    ensures { asked result ≡ transfer_of body.now }
+// The transfer with which a body begins, as numbers: every NaN word gives NaN. None where its way is neither
+// 0 nor 1.
+pub fn transfer(body: &[u8]) -> Option<Transfer>
+    ensures { stated 23 result ≡ transfer_of body.now }
 {
-    match words::half(body, SPARE) {
-        0 => Asked::Transfer(by_way(body, Way::Short)),
-        1 => Asked::Transfer(by_way(body, Way::Long)),
-        _ => Asked::UnknownWay,
-    }
-}
-
-fn by_way(body: &[u8], way: Way) -> Transfer
-    ensures { result ≡ transfer_by body.now way }
-{
+    let way = match words::half(body, SPARE) {
+        0 => Way::Short,
+        1 => Way::Long,
+        _ => return None,
+    };
     let p = problem(body);
-    let r1 = p.r;
-    let r2 = p.v;
-    Transfer {
+    Some(Transfer {
         mu: p.mu,
-        r1,
-        r2,
+        r1: p.r,
+        r2: p.v,
         dt: p.dt,
         limit: p.limit,
         way,
-    }
+    })
 }
 
 fn vector(body: &[u8], at: usize) -> Vector

@@ -1,23 +1,18 @@
--- What `time` says can be undone, so `timing` is one to one, and the contract through it has one answer. And a verdict comes from one row of tests
--- alone.
+-- What `time` answers says one thing, so the contract has one answer. And a verdict comes from one row of tests alone.
 use mathlib.Core.Path.{◌≡◌, refl}
 use lib.Ieee.{Float}
 use Prim.Native.Nat.{ℕ}
 use Rattle.coincidence.specs.Coincidence.{OneToOne}
-use Rattle.coincidence.proofs.Laws.{undone}
 use Rattle.rows.specs.Rows.{Checked, pass, refuse}
-use Rattle.rows.proofs.Laws.{taken_back}
+use Rattle.rows.proofs.Laws.{checked_once}
 use Rattle.ruling.specs.Said.{rejected}
-use Rattle.compared.specs.declared.Timed.{Timed}
-use Rattle.compared.specs.declared.Timed.TheVariants as timed
-use Rattle.compared.specs.Said.{timing, as_solved, as_refused}
+use Rattle.compared.specs.Said.{by_number, as_solved, as_refused}
 
-untimed : (a : Timed) → taken_back timed.Residual timed.Rejected (timing a) ≡ a
-untimed (timed.Residual r) = refl
-untimed (timed.Rejected k) = refl
+pub by_number_once : {A : Type 0} → OneToOne (by_number {A = A})
+by_number_once = checked_once (λ k. k) (λ k. k) (λ k. refl)
 
-pub timing_once : OneToOne timing
-timing_once = undone timing (taken_back timed.Residual timed.Rejected) untimed
+pub timing_once : OneToOne (by_number {A = Float})
+timing_once = by_number_once
 
 pub as_solved_lem : (c d : Checked Float) → as_solved c ≡ as_solved d → c ≡ d
 as_solved_lem (pass a) (pass b) e = cc

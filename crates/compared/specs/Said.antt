@@ -1,13 +1,11 @@
 -- What the answers say, in the numbers and values of RULES, Verdicts. Definitions only.
-use Rattle.std.specs.Prelude.{Float}
-use Rattle.rows.specs.Rows.{Checked, pass, refuse}
+use Rattle.std.specs.Prelude.{ℕ, Float, Result}
+use Rattle.rows.specs.Rows.{Checked, pass, refuse, checked}
 use Rattle.ruling.specs.Said.{Said, solved, refused, rejected}
-use Rattle.compared.specs.declared.Timed.{Timed}
-use Rattle.compared.specs.declared.Timed.TheVariants as timed
 
-abbrev pub timing : Timed → Checked Float
-timing (timed.Residual residual) = pass residual
-timing (timed.Rejected k) = refuse k
+-- an answer that is refused with a number, as it stands
+abbrev pub by_number : {A : Type 0} → Result A ℕ → Checked A
+by_number a = checked (λ k. k) a
 
 -- the verdict that a row of tests comes to
 abbrev pub as_solved : Checked Float → Said

@@ -5,20 +5,13 @@
 #![tactic(auto)]
 
 ghost use Rattle.std.specs.Prelude.{◌≡◌};
-ghost use Rattle.compared.specs.Said.{timing};
+ghost use Rattle.compared.specs.Said.{by_number};
 ghost use Rattle.compared.specs.Compared.{timed_by, place_at, same_words};
 
 use conic::Reason;
 use ruling::Fault;
 use search::Bracket;
 use vectors::Vector;
-
-// The residual of a time that is near, in seconds; or the number with which the card is rejected.
-#[derive(Clone, Copy)]
-pub enum Timed {
-    Residual(f64),
-    Rejected(u32),
-}
 
 // Where a vector stands in a solved card's answer: behind the unknown, or behind the first vector.
 #[derive(Clone, Copy)]
@@ -27,24 +20,26 @@ pub enum Place {
     Second,
 }
 
-// The unknown x, the time there and the wanted one, and the unit of both times: 20, 6, 21, or the
-// residual. The tests read the scaled times; the residual alone is in seconds.
-pub fn time(b: Bracket, x: f64, time: f64, t: f64, unit: f64) -> Timed
-    ensures { timing result ≡ timed_by b x time t unit }
+// The unknown x, the time there and the wanted one, and the unit of both times: the residual of a time that
+// is near, or the number with which the card is rejected, 20, 6 or 21, which are of two enums. The tests read the
+// scaled times; the residual alone is in seconds.
+pub fn time(b: Bracket, x: f64, time: f64, t: f64, unit: f64) -> Result<f64, u32>
+    ensures { by_number result ≡ timed_by b x time t unit }
 {
     if !(exact::finite(x) & search::contains(b, x)) {
-        return Timed::Rejected(Fault::XOutside.number());
+        return Err(Fault::XOutside.number());
     }
     if !exact::finite(time) {
-        return Timed::Rejected(Reason::NotFinite.number());
+        return Err(Reason::NotFinite.number());
     }
     if !exact::near(time, t) {
-        return Timed::Rejected(Fault::TimeOff.number());
+        return Err(Fault::TimeOff.number());
     }
-    Timed::Residual(exact::absolute(time - t) * unit)
+    Ok(exact::absolute(time - t) * unit)
 }
 
-// Whether the three words that stand in an answer at this place are those of a.
+// Whether the three words that stand in an answer at this place are those of a. No derived equality: -0 is not 0
+// here, and every NaN word is NaN's.
 pub fn same(answer: &[u8], place: Place, a: Vector) -> bool
     ensures { result ≡ same_words answer.now (place_at place) a }
 {

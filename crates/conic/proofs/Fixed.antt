@@ -2,13 +2,11 @@
 use mathlib.Core.Path.{refl}
 use Rattle.coincidence.specs.Coincidence.{Fixes}
 use Rattle.coincidence.proofs.Laws.{one_result, one_answer}
-use Rattle.conic.proofs.Theorems.{arrived_once, said_once}
+use Rattle.conic.proofs.Theorems.{arrived_once}
 use Rattle.conic.proofs.unfolding.arrive.Reads as unfolding-arrive
 use Rattle.conic.proofs.unfolding.arrive.Kinds as unfolding-arrive-kinds
 use Rattle.conic.proofs.unfolding.arrive_at.Reads as unfolding-arrive-at
 use Rattle.conic.proofs.unfolding.arrive_at.Kinds as unfolding-arrive-at-kinds
-use Rattle.conic.proofs.unfolding.outcome_of.Reads as unfolding-outcome-of
-use Rattle.conic.proofs.unfolding.outcome_of.Kinds as unfolding-outcome-of-kinds
 use Rattle.conic.proofs.Scaled.time_at.Reads as scaled-time-at
 use Rattle.conic.proofs.Scaled.time_at.Kinds as scaled-time-at-kinds
 use Rattle.conic.proofs.Reason.number.Reads as reason-number
@@ -21,9 +19,6 @@ unfolding_arrive_fixes κs a x y v w p q = (one_answer arrived_once x y p q, ref
 
 pub unfolding_arrive_at_fixes : Fixes 0 unfolding-arrive-at-kinds.ps unfolding-arrive-at-kinds.r unfolding-arrive-at.Learnt
 unfolding_arrive_at_fixes κs a x y v w p q = (one_answer arrived_once x y p q, refl)
-
-pub unfolding_outcome_of_fixes : Fixes 0 unfolding-outcome-of-kinds.ps unfolding-outcome-of-kinds.r unfolding-outcome-of.Learnt
-unfolding_outcome_of_fixes κs a x y v w p q = (one_answer said_once x y p q, refl)
 
 pub scaled_time_at_fixes : Fixes 0 scaled-time-at-kinds.ps scaled-time-at-kinds.r scaled-time-at.Learnt
 scaled_time_at_fixes κs a x y v w p q = (one_result p q, refl)

@@ -1,6 +1,6 @@
--- What an answer says can be undone, since the number of a reason names the reason: `said` and `arrived` are one to one, and a contract through
--- one of them has one answer.
-use mathlib.Core.Path.{◌≡◌, refl, ap}
+-- The number of a reason names the reason, so what an answer or an arrival says can be undone: `said` and `checked reason_number` are one to one,
+-- and a contract through one of them has one answer.
+use mathlib.Core.Path.{◌≡◌, refl}
 use mathlib.Core.List.{List, [], ◌∷◌}
 use mathlib.Core.Bool.{true, cond}
 use Prim.Native.Nat.{ℕ, ◌-◌}
@@ -12,14 +12,11 @@ use Rattle.coincidence.specs.Coincidence.{OneToOne}
 use Rattle.coincidence.proofs.Laws.{undone}
 use Rattle.conic.specs.declared.Reason.{Reason}
 use Rattle.conic.specs.declared.Reason.TheVariants as why
-use Rattle.conic.specs.declared.Outcome.{Outcome}
-use Rattle.conic.specs.declared.Outcome.TheVariants as outcome
-use Rattle.conic.specs.declared.unfolding.Arrival.{Arrival}
-use Rattle.conic.specs.declared.unfolding.Arrival.TheVariants as arrival
-use Rattle.rows.specs.Rows.{Checked}
-use Rattle.rows.proofs.Laws.{taken_back}
-use Rattle.search.specs.Answers.{solved, refused, refused_with_bracket}
-use Rattle.conic.specs.Said.{Said, input_number, reason_number, said, arrived}
+use Rattle.conic.specs.declared.State.{State}
+use Rattle.rows.specs.Rows.{checked}
+use Rattle.rows.proofs.Laws.{checked_once}
+use Rattle.search.proofs.Theorems.{answered_once}
+use Rattle.conic.specs.Said.{input_number, reason_number, said}
 
 -- ---- a reason by its number: from 101 on by its place, below by a list from 0 on, where 0, 1 and 13 are no prediction's
 abbrev reasons : List Reason
@@ -41,7 +38,7 @@ reasons =
     ∷ why.RootRefused
     ∷ []
 
-abbrev reason_of : ℕ → Reason
+abbrev pub reason_of : ℕ → Reason
 reason_of k = cond (leb (input_number 0) k) (why.InputNotFinite (k - input_number 0)) (get_or reasons k why.RootRefused)
 
 input_is : (place : ℕ) → reason_of (input_number place) ≡ why.InputNotFinite place
@@ -65,29 +62,14 @@ reason_is why.TooNearCentre = refl
 reason_is why.TowardsInfinity = refl
 reason_is why.RootRefused = refl
 
--- ---- a prediction's answer
+-- so a number names one reason
+pub reasons_once : OneToOne reason_number
+reasons_once = undone reason_number reason_of reason_is
 
-abbrev unsaid : Said → Outcome
-unsaid (solved x n state) = outcome.Solved x n state
-unsaid (refused k n) = outcome.Refused (reason_of k) n
-unsaid (refused_with_bracket k n lo hi) = outcome.RefusedWithBracket (reason_of k) n lo hi
-
-unsaid_is : (a : Outcome) → unsaid (said a) ≡ a
-unsaid_is (outcome.Solved x n state) = refl
-unsaid_is (outcome.Refused r n) = ap (λ (k : Reason). outcome.Refused k n) (reason_is r)
-unsaid_is (outcome.RefusedWithBracket r n lo hi) = ap (λ (k : Reason). outcome.RefusedWithBracket k n lo hi) (reason_is r)
+-- ---- a prediction's answer, and an arrival
 
 pub said_once : OneToOne said
-said_once = undone said unsaid unsaid_is
+said_once = answered_once reason_number reasons_once
 
--- ---- the answers on the way: something passed, or a reason
-
-abbrev pub untold : {A B : Type 0} → (B → A) → (Reason → A) → Checked B → A
-untold passed failed c = taken_back passed (λ k. failed (reason_of k)) c
-
-unarrived : (a : Arrival) → untold arrival.State arrival.Refused (arrived a) ≡ a
-unarrived (arrival.State state) = refl
-unarrived (arrival.Refused r) = ap arrival.Refused (reason_is r)
-
-pub arrived_once : OneToOne arrived
-arrived_once = undone arrived (untold arrival.State arrival.Refused) unarrived
+pub arrived_once : OneToOne (checked {A = State} reason_number)
+arrived_once = checked_once reason_number reason_of reason_is

@@ -1,16 +1,13 @@
 -- What the answers say, in the numbers and values of RULES, Refusal numbers. Definitions only.
-use Rattle.std.specs.Prelude.{ℕ, ◌+◌, Bool, ◌&&◌, ◌||◌, List, leb, ltb, eqb, Float}
+use Rattle.std.specs.Prelude.{ℕ, ◌+◌, Bool, ◌&&◌, ◌||◌, List, Result, leb, ltb, eqb, Float}
 use Rattle.conic.specs.declared.State.{State}
 use Rattle.conic.specs.declared.Problem.{Problem}
 use Rattle.conic.specs.declared.Reason.{Reason}
 use Rattle.conic.specs.declared.Reason.TheVariants as why
-use Rattle.conic.specs.declared.Outcome.{Outcome}
-use Rattle.conic.specs.declared.Outcome.TheVariants as outcome
-use Rattle.conic.specs.declared.unfolding.Arrival.{Arrival}
-use Rattle.conic.specs.declared.unfolding.Arrival.TheVariants as arrival
-use Rattle.rows.specs.Rows.{Checked, pass, refuse}
 use Rattle.vectors.specs.Vectors.{numbers_given}
-use Rattle.search.specs.Answers.{Answer, solved, refused, refused_with_bracket}
+use Rattle.search.specs.declared.Solution.{Solution}
+use Rattle.search.specs.declared.Refusal.{Refusal}
+use Rattle.search.specs.Answers.{Answer, answered}
 
 -- the eight numbers that Kepler is given, by their places
 abbrev pub problem_numbers : Problem → List Float
@@ -52,12 +49,5 @@ is_meant_by k number = eqb k number || eqb number 1 && is_input k
 abbrev pub Said : Type 0
 Said = Answer State
 
-abbrev pub said : Outcome → Said
-said (outcome.Solved x n state) = solved x n state
-said (outcome.Refused why n) = refused (reason_number why) n
-said (outcome.RefusedWithBracket why n lo hi) = refused_with_bracket (reason_number why) n lo hi
-
--- an arrival: a state, or the refusal
-abbrev pub arrived : Arrival → Checked State
-arrived (arrival.State state) = pass state
-arrived (arrival.Refused why) = refuse (reason_number why)
+abbrev pub said : Result (Solution State) (Refusal Reason) → Said
+said a = answered reason_number a

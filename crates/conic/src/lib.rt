@@ -8,7 +8,9 @@
 ghost use Rattle.std.specs.Prelude.{◌≡◌};
 ghost use Rattle.conic.specs.Said.{input_number, reason_number, is_meant_by};
 ghost use Rattle.conic.specs.TimeAndRatio.{time_at};
+ghost use Rattle.conic.specs.Unfolding.{arrival_at};
 
+use search::{Sought, Why};
 use vectors::Vector;
 
 pub mod unfolding;
@@ -45,10 +47,36 @@ pub struct Scaled {
 
 impl Scaled {
     // T(x): the scaled time; NaN where the functions are refused.
+    #[tactic(auto, unfolding(crate::specs::TimeAndRatio::time_at))]
     pub fn time_at(self, x: f64) -> f64
         ensures { result ≡ time_at self x }
     {
         universal::time(self.s, universal::at_or_nan(x, self.alpha))
+    }
+}
+
+// What a prediction searches for: the x whose time is t, and the state that it unfolds to.
+impl Sought for Scaled {
+    type Found = State;
+
+    type Reason = Reason;
+
+    ghost time_at = { time_at };
+
+    ghost wanted_time = { λ o. o.t };
+
+    ghost found_at = { arrival_at };
+
+    fn time_at(self, x: f64) -> f64 {
+        Scaled::time_at(self, x)
+    }
+
+    fn wanted_time(self) -> f64 {
+        self.t
+    }
+
+    fn found_at(self, x: f64) -> Result<State, Reason> {
+        unfolding::arrive_at(self, x)
     }
 }
 
@@ -81,6 +109,7 @@ pub enum Reason {
 
 impl Reason {
     // Its number in the rules.
+    // No `From`: docs/STATEMENTS.md has the clause, and that it has one result (docs/DECISIONS.md 149).
     pub fn number(self) -> u32
         ensures { result ≡ reason_number self }
     {
@@ -101,7 +130,7 @@ impl Reason {
         }
     }
 
-    // Whether the number on a refused card means it.
+    // Whether the number on a refused card means it. A number as it was sent: any may stand there.
     pub fn is_meant_by(self, number: u32) -> bool
         ensures { result ≡ is_meant_by (reason_number self) number }
     {
@@ -117,10 +146,21 @@ fn input_number(place: u8) -> u32
     FIRST_INPUT + place as u32
 }
 
-// A prediction's answer. The bracket's ends come with reasons 9 and 10.
-#[derive(Clone, Copy)]
-pub enum Outcome {
-    Solved { x: f64, count: u32, state: State },
-    Refused(Reason, u32),
-    RefusedWithBracket(Reason, u32, f64, f64),
+impl Why for Reason {
+    ghost number = { reason_number };
+
+    fn lost() -> Reason {
+        Reason::NotFinite
+    }
+
+    fn closed() -> Reason {
+        Reason::BracketClosed
+    }
+
+    fn spent() -> Reason {
+        Reason::LimitReached
+    }
 }
+
+// A prediction's answer.
+pub type Outcome = search::Outcome<State, Reason>;

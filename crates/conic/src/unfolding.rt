@@ -1,57 +1,41 @@
-// From the universal functions back to a state: RULES, Unfolding, with the tests for
+// From the universal functions back to a state: docs/RULES.md, Unfolding, with the tests for
 // refusals 11 and 6 that every caller makes.
 ghost use Rattle.std.specs.Prelude.{◌≡◌};
-ghost use Rattle.conic.specs.Said.{said, arrived};
-ghost use Rattle.search.specs.Answers.{with_found};
+ghost use Rattle.rows.specs.Rows.{checked};
+ghost use Rattle.conic.specs.Said.{reason_number};
 ghost use Rattle.conic.specs.Unfolding.{unfolded, arrival_of, arrival_at};
 
-use crate::{Outcome, Reason, Scaled, State};
-use universal::Values;
+use crate::{Reason, Scaled, State};
 
 // 2^-10: the least radius ratio.
 const LEAST_RATIO: f64 = 0.0009765625;
 
-#[derive(Clone, Copy)]
-pub enum Arrival {
-    State(State),
-    Refused(Reason),
-}
-
 // The state that u1, u2 and the radius ratio unfold to, where the ratio is allowed and every
 // component is finite.
-pub fn arrive(o: Scaled, u1: f64, u2: f64, ratio: f64) -> Arrival
-    ensures { arrived result ≡ arrival_of o u1 u2 ratio }
+#[tactic(auto, unfolding(rows::specs::Rows::must, crate::specs::Unfolding::arrival_of))]
+pub fn arrive(o: Scaled, u1: f64, u2: f64, ratio: f64) -> Result<State, Reason>
+    ensures { checked reason_number result ≡ arrival_of o u1 u2 ratio }
 {
     if !(LEAST_RATIO <= ratio) {
-        return Arrival::Refused(Reason::TooNearCentre);
+        return Err(Reason::TooNearCentre);
     }
     let state = unfolded_state(o, u1, u2, ratio);
     if !(vectors::all_finite(state.r) & vectors::all_finite(state.v)) {
-        return Arrival::Refused(Reason::NotFinite);
+        return Err(Reason::NotFinite);
     }
-    Arrival::State(state)
+    Ok(state)
 }
 
 // The state that x unfolds to, with the same tests, where the functions are not refused.
-pub fn arrive_at(o: Scaled, x: f64) -> Arrival
-    ensures { arrived result ≡ arrival_at o x }
+#[tactic(auto, unfolding(rows::specs::Rows::onward, crate::specs::Unfolding::arrival_at))]
+pub fn arrive_at(o: Scaled, x: f64) -> Result<State, Reason>
+    ensures { checked reason_number result ≡ arrival_at o x }
 {
-    match universal::at(x, o.alpha) {
-        Values::Worked(u) => arrive(o, u.u1, u.u2, universal::ratio(o.s, u)),
-        Values::Refused => Arrival::Refused(Reason::NotFinite),
-    }
+    let u = universal::at(x, o.alpha).ok_or(Reason::NotFinite)?;
+    arrive(o, u.u1, u.u2, universal::ratio(o.s, u))
 }
 
-// A prediction's answer: the state with its x and count, or the refusal with the count.
-pub fn outcome_of(arrival: Arrival, x: f64, count: u32) -> Outcome
-    ensures { said result ≡ with_found x count (arrived arrival) }
-{
-    match arrival {
-        Arrival::State(state) => Outcome::Solved { x, count, state },
-        Arrival::Refused(why) => Outcome::Refused(why, count),
-    }
-}
-
+#[tactic(auto, unfolding(crate::specs::Unfolding::unfolded))]
 fn unfolded_state(o: Scaled, u1: f64, u2: f64, ratio: f64) -> State
     ensures { result ≡ unfolded o u1 u2 ratio }
 {

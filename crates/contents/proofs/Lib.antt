@@ -1,3 +1,4 @@
+pub mod Stated
 pub mod Cards
 pub mod Walking
 pub mod Opened

@@ -15,8 +15,9 @@ ghost use Rattle.deck.specs.Said.{said};
 ghost use Rattle.deck.specs.Check.{judged_from, tallied, answer_of, written, list_after};
 
 use card::Kind;
-use contents::{Contents, ENTRY, Entry, HEADER};
+use contents::{ENTRY, HEADER};
 use ruling::{Reason, Verdict};
+use tally::Running;
 use version::Version;
 
 mod tally;
@@ -29,64 +30,48 @@ pub struct Totals {
     pub rejected: u32,
 }
 
-// Mean and worst of the solved cards' residuals, in seconds; absent, and not zero, where there is none.
+// Mean and worst of the solved cards' residuals, in seconds.
 #[derive(Clone, Copy)]
-pub enum Residuals {
-    Absent,
-    Known { mean: f64, worst: f64 },
-}
-
-#[derive(Clone, Copy)]
-pub enum Answer {
-    Accepted(Totals, Residuals),
-    Refused(Reason),
+pub struct Residuals {
+    pub mean: f64,
+    pub worst: f64,
 }
 
 // Checks a deck: the verdict on each card goes into the lent list; the places behind keep their
-// values.
-pub fn check(deck: &[u8], verdicts: &mut [u32]) -> Answer
+// values. Mean and worst are absent, and not zero, where no card is solved.
+pub fn check(deck: &[u8], verdicts: &mut [u32]) -> Result<(Totals, Option<Residuals>), Reason>
     ensures result_value { said result ≡ answer_of deck.now (length verdicts.old) }
     ensures verdicts_after { verdicts.new ≡ list_after deck.now verdicts.old }
 {
-    match contents::tested(deck) {
-        Contents::Refused(why) => Answer::Refused(why),
-        Contents::Cards(version, count) => {
-            if verdicts.len() < count as usize {
-                return Answer::Refused(Reason::ListTooShort);
-            }
-            judged(deck, version, count, verdicts)
-        }
+    let (version, count) = contents::tested(deck)?;
+    if verdicts.len() < count as usize {
+        return Err(Reason::ListTooShort);
     }
+    judged(deck, version, count, verdicts)
 }
 
 // A verdict for each card of a deck whose contents passed, and the tally. No entry is refused here.
-fn judged(deck: &[u8], version: Version, count: u32, verdicts: &mut [u32]) -> Answer
+fn judged(
+    deck: &[u8],
+    version: Version,
+    count: u32,
+    verdicts: &mut [u32],
+) -> Result<(Totals, Option<Residuals>), Reason>
     requires count_le_most_cards { (count ≤ most_cards) × (count ≤ length verdicts.old) }
     requires passes { Passes (cards_from version deck.now count 0 (entry_at count)) }
     ensures result_value { said result ≡ tallied (judged_from version deck.now count) }
     ensures verdicts_after { verdicts.new ≡ written (judged_from version deck.now count) verdicts.old }
 {
-    let mut i = 0;
     let mut at = HEADER + ENTRY * count as usize;
-    let mut running = tally::none();
-    while i < count {
-        match contents::entry_at(deck, version, i, at) {
-            Entry::Refused(why) => return Answer::Refused(why),
-            Entry::Card(kind) => {
-                let end = at + kind.size(version);
-                let verdict = judge_into(
-                    &mut verdicts[i as usize..],
-                    version,
-                    kind,
-                    &deck[at..end],
-                );
-                running = tally::with(running, verdict);
-                at = end;
-                i += 1;
-            }
-        }
+    let mut running = Running::none();
+    for i in 0..count {
+        let kind = contents::entry_at(deck, version, i, at)?;
+        let end = at + kind.size(version);
+        let verdict = judge_into(&mut verdicts[i as usize..], version, kind, &deck[at..end]);
+        running = running.with(verdict);
+        at = end;
     }
-    tally::closed(running)
+    Ok(running.closed())
 }
 
 // The verdict on a card, written into the first place of the list.

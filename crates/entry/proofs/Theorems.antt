@@ -1,30 +1,15 @@
--- What an answer of the entry tests says can be undone, so `passed_scaled` and `passed_start` are one to one, and the contracts through them have
--- one answer.
-use mathlib.Core.Path.{◌≡◌, refl, ap}
+-- What an answer of the entry tests says can be undone, since the number of a reason names the reason: a problem or its refusal is one to one,
+-- and a contract through it has one answer.
 use Rattle.coincidence.specs.Coincidence.{OneToOne}
-use Rattle.coincidence.proofs.Laws.{undone}
+use Rattle.rows.specs.Rows.{checked}
+use Rattle.rows.proofs.Laws.{checked_once}
 use Rattle.search.specs.declared.Bracket.{Bracket}
 use Rattle.conic.specs.declared.Scaled.{Scaled}
-use Rattle.conic.proofs.Theorems.{reason_is, untold}
-use Rattle.entry.specs.declared.Scaling.{Scaling}
-use Rattle.entry.specs.declared.Scaling.TheVariants as scaling
-use Rattle.entry.specs.declared.Start.{Start}
-use Rattle.entry.specs.declared.Start.TheVariants as start
-use Rattle.entry.specs.Said.{passed_scaled, passed_start}
+use Rattle.conic.specs.Said.{reason_number}
+use Rattle.conic.proofs.Theorems.{reason_of, reason_is}
 
-unscaled : (a : Scaling) → untold scaling.Passed scaling.Refused (passed_scaled a) ≡ a
-unscaled (scaling.Passed o) = refl
-unscaled (scaling.Refused r) = ap scaling.Refused (reason_is r)
+pub scaled_once : OneToOne (checked {A = Scaled} reason_number)
+scaled_once = checked_once reason_number reason_of reason_is
 
-pub scaled_once : OneToOne passed_scaled
-scaled_once = undone passed_scaled (untold scaling.Passed scaling.Refused) unscaled
-
-abbrev started : Scaled × Bracket → Start
-started e = start.Passed e.0 e.1
-
-unstarted : (a : Start) → untold started start.Refused (passed_start a) ≡ a
-unstarted (start.Passed o b) = refl
-unstarted (start.Refused r) = ap start.Refused (reason_is r)
-
-pub start_once : OneToOne passed_start
-start_once = undone passed_start (untold started start.Refused) unstarted
+pub start_once : OneToOne (checked {A = Scaled × Bracket} reason_number)
+start_once = checked_once reason_number reason_of reason_is

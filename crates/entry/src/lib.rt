@@ -7,14 +7,16 @@
 #![tactic(auto)]
 
 ghost use Rattle.std.specs.Prelude.{◌≡◌};
-ghost use Rattle.entry.specs.Said.{passed_inputs, passed_number, passed_scaled, passed_start};
-ghost use Rattle.entry.specs.Entry.{inputs_tested, tested_by, scaled_by, scaled_of, far_end_of, bracketed_by, start_by, entry_of, angle_entry_of};
+ghost use Rattle.rows.specs.Rows.{checked};
+ghost use Rattle.units.specs.Units.{given_tested, numbered};
+ghost use Rattle.units.specs.Said.{measured_said};
+ghost use Rattle.conic.specs.Said.{input_number, reason_number};
 ghost use Rattle.conic.specs.TimeAndRatio.{time_at};
+ghost use Rattle.entry.specs.Entry.{inputs_tested, tested_by, scaled_by, scaled_of, far_end_of, bracketed_by, start_by, entry_of, angle_entry_of};
 
 use conic::{Problem, Reason, Scaled};
-use root::Answer;
 use search::{Bracket, Point};
-use units::{Finite, Length, TimeUnit};
+use units::Unmeasured;
 use vectors::Vector;
 
 // 2^-20: a smaller p is a straight line.
@@ -29,97 +31,74 @@ const REACH: f64 = 7.9375;
 
 const LARGEST_ANGLE: f64 = 6.25;
 
-// A scaled problem, or why there is none.
-#[derive(Clone, Copy)]
-pub enum Scaling {
-    Passed(Scaled),
-    Refused(Reason),
-}
-
-// A scaled problem with its starting bracket, or why there is none.
-#[derive(Clone, Copy)]
-pub enum Start {
-    Passed(Scaled, Bracket),
-    Refused(Reason),
-}
-
-// A number on the way, or why there is none.
-#[derive(Clone, Copy)]
-enum Number {
-    Passed(f64),
-    Refused(Reason),
-}
-
-// Whether the numbers given can be worked with, or why not.
-#[derive(Clone, Copy)]
-enum Inputs {
-    Passed,
-    Refused(Reason),
-}
-
-// Kepler's entry.
-pub fn entry(p: Problem) -> Start
-    ensures { passed_start result ≡ entry_of p }
+// Kepler's entry: the scaled problem with its starting bracket.
+#[tactic(auto, unfolding(rows::specs::Rows::must, rows::specs::Rows::onward, crate::specs::Entry::entry_of))]
+pub fn entry(p: Problem) -> Result<(Scaled, Bracket), Reason>
+    ensures { checked reason_number result ≡ entry_of p }
 {
-    let limit = p.limit;
     let r = p.r;
     let v = p.v;
-    let inputs = first_tests(p.mu, r, v, p.dt);
-    if let Inputs::Refused(why) = inputs {
-        return Start::Refused(why);
+    first_tests(p.mu, r, v, p.dt)?;
+    if !search::allows(p.limit) {
+        return Err(Reason::LimitOutOfRange);
     }
-    if !search::allows(limit) {
-        return Start::Refused(Reason::LimitOutOfRange);
-    }
-    match scale(p.mu, r, v, p.dt) {
-        Scaling::Passed(o) => started(o),
-        Scaling::Refused(why) => Start::Refused(why),
-    }
+    started(scale(p.mu, r, v, p.dt)?)
 }
 
 // Theta's entry: it has no time, so its scaled problem is that of dt 0.
-pub fn angle_entry(mu: f64, r: Vector, v: Vector, a: f64) -> Scaling
-    ensures { passed_scaled result ≡ angle_entry_of mu r v a }
+#[tactic(auto, unfolding(rows::specs::Rows::must, rows::specs::Rows::onward, crate::specs::Entry::angle_entry_of))]
+pub fn angle_entry(mu: f64, r: Vector, v: Vector, a: f64) -> Result<Scaled, Reason>
+    ensures { checked reason_number result ≡ angle_entry_of mu r v a }
 {
-    let inputs = first_tests(mu, r, v, a);
-    if let Inputs::Refused(why) = inputs {
-        return Scaling::Refused(why);
-    }
+    first_tests(mu, r, v, a)?;
     if !(exact::absolute(a) <= LARGEST_ANGLE) {
-        return Scaling::Refused(Reason::AngleTooLarge);
+        return Err(Reason::AngleTooLarge);
     }
     scale(mu, r, v, 0.0)
 }
 
 // The tests that both begin with. The last number is the time or the angle.
-fn first_tests(mu: f64, r: Vector, v: Vector, last: f64) -> Inputs
-    ensures { passed_inputs result ≡ inputs_tested mu r v last }
+#[tactic(auto, unfolding(rows::specs::Rows::must, rows::specs::Rows::onward, crate::specs::Entry::inputs_tested))]
+fn first_tests(mu: f64, r: Vector, v: Vector, last: f64) -> Result<(), Reason>
+    ensures { checked reason_number result ≡ inputs_tested mu r v last }
 {
-    if let Finite::NotAt(place) = units::given(mu, r, v, last) {
-        return Inputs::Refused(Reason::InputNotFinite(place));
-    }
+    all_given(mu, r, v, last)?;
     if !(0.0 < mu) {
-        return Inputs::Refused(Reason::MuNotPositive);
+        return Err(Reason::MuNotPositive);
     }
-    Inputs::Passed
+    Ok(())
 }
 
-fn scale(mu: f64, r: Vector, v: Vector, dt: f64) -> Scaling
-    ensures { passed_scaled result ≡ scaled_of mu r v dt }
+// The numbers given are finite, or the first that is not.
+fn all_given(mu: f64, r: Vector, v: Vector, last: f64) -> Result<(), Reason>
+    ensures { checked reason_number result ≡ given_tested input_number mu r v last }
 {
-    match units::radius(r) {
-        Length::Unusable => Scaling::Refused(Reason::NoRadius),
-        Length::RootRefused => Scaling::Refused(Reason::RootRefused),
-        Length::Measured(r0) => match units::time_unit(mu, r0) {
-            TimeUnit::Unusable => Scaling::Refused(Reason::NotFinite),
-            TimeUnit::RootRefused => Scaling::Refused(Reason::RootRefused),
-            TimeUnit::Measured(f1, f4) => scale_by(r, v, dt, r0, f1, f4),
-        },
+    units::given(mu, r, v, last).map_err(|why| Reason::InputNotFinite(why.place))
+}
+
+#[tactic(auto, unfolding(rows::specs::Rows::onward, crate::specs::Entry::scaled_of))]
+fn scale(mu: f64, r: Vector, v: Vector, dt: f64) -> Result<Scaled, Reason>
+    ensures { checked reason_number result ≡ scaled_of mu r v dt }
+{
+    let r0 = measured(units::radius(r), Reason::NoRadius)?;
+    let (f1, f4) = measured(units::time_unit(mu, r0), Reason::NotFinite)?;
+    scale_by(r, v, dt, r0, f1, f4)
+}
+
+// What was measured; a refused root is refusal 14, and what is not usable has its own.
+fn measured<A: Copy>(found: Result<A, Unmeasured>, unusable: Reason) -> Result<A, Reason>
+    ensures { checked reason_number result ≡ numbered (reason_number unusable) 14 (measured_said found) }
+{
+    match found {
+        Ok(found) => Ok(found),
+        Err(Unmeasured::Unusable) => Err(unusable),
+        Err(Unmeasured::RootRefused) => Err(Reason::RootRefused),
     }
 }
 
-fn scale_by(r: Vector, v: Vector, dt: f64, r0: f64, f1: f64, f4: f64) -> Scaling
-    ensures { passed_scaled result ≡ scaled_by r v dt r0 f1 f4 }
+#[tactic(auto, unfolding(rows::specs::Rows::must, crate::specs::Entry::scaled_by))]
+fn scale_by(r: Vector, v: Vector, dt: f64, r0: f64, f1: f64, f4: f64) -> Result<Scaled, Reason>
+    ensures { checked reason_number result ≡ scaled_by r v dt r0 f1 f4 }
 {
     let u = vectors::divided(r, r0);
     let w = vectors::scaled(f1, v);
@@ -129,7 +108,7 @@ fn scale_by(r: Vector, v: Vector, dt: f64, r0: f64, f1: f64, f4: f64) -> Scaling
     let p = q - s * s;
     let t = dt / f4;
     if !vectors::all_finite(w) {
-        return Scaling::Refused(Reason::NotFinite);
+        return Err(Reason::NotFinite);
     }
     tested(
         q,
@@ -147,8 +126,9 @@ fn scale_by(r: Vector, v: Vector, dt: f64, r0: f64, f1: f64, f4: f64) -> Scaling
 }
 
 // The scaled problem where its numbers, and q, are finite and it is no straight line.
-fn tested(q: f64, o: Scaled) -> Scaling
-    ensures { passed_scaled result ≡ tested_by q o }
+#[tactic(auto, unfolding(rows::specs::Rows::must, crate::specs::Entry::tested_by))]
+fn tested(q: f64, o: Scaled) -> Result<Scaled, Reason>
+    ensures { checked reason_number result ≡ tested_by q o }
 {
     if !(exact::finite(o.s)
         & exact::finite(q)
@@ -156,62 +136,59 @@ fn tested(q: f64, o: Scaled) -> Scaling
         & exact::finite(o.p)
         & exact::finite(o.t))
     {
-        return Scaling::Refused(Reason::NotFinite);
+        return Err(Reason::NotFinite);
     }
     if o.p < STRAIGHT {
-        return Scaling::Refused(Reason::StraightLine);
+        return Err(Reason::StraightLine);
     }
-    Scaling::Passed(o)
+    Ok(o)
 }
 
 // X.
-fn far_end(alpha: f64) -> Number
-    ensures { passed_number result ≡ far_end_of alpha }
+#[tactic(auto, unfolding(rows::specs::Rows::onward, units::specs::Units::rooted, crate::specs::Entry::far_end_of))]
+fn far_end(alpha: f64) -> Result<f64, Reason>
+    ensures { checked reason_number result ≡ far_end_of alpha }
 {
     let size = exact::absolute(alpha);
     if size <= SIXTY_FOURTH {
-        return Number::Passed(FARTHEST);
+        return Ok(FARTHEST);
     }
-    let Answer::Root(k) = root::root(size) else {
-        return Number::Refused(Reason::RootRefused);
-    };
-    Number::Passed(REACH / k)
+    let k = root::root(size).map_err(|_| Reason::RootRefused)?;
+    Ok(REACH / k)
 }
 
 // The starting bracket, where the far end is not short of the wanted time.
-fn started(o: Scaled) -> Start
-    ensures { passed_start result ≡ start_by time_at o }
+#[tactic(auto, unfolding(rows::specs::Rows::onward, crate::specs::Entry::start_by))]
+fn started(o: Scaled) -> Result<(Scaled, Bracket), Reason>
+    ensures { checked reason_number result ≡ start_by time_at o }
 {
-    match far_end(o.alpha) {
-        Number::Refused(why) => Start::Refused(why),
-        Number::Passed(x) => {
-            if 0.0 <= o.t {
-                bracketed(o, x)
-            } else {
-                bracketed(o, -x)
-            }
-        }
+    let x = far_end(o.alpha)?;
+    if 0.0 <= o.t {
+        bracketed(o, x)
+    } else {
+        bracketed(o, -x)
     }
 }
 
-fn bracketed(o: Scaled, far: f64) -> Start
-    ensures { passed_start result ≡ bracketed_by o far (time_at o far) }
+#[tactic(auto, unfolding(rows::specs::Rows::must, crate::specs::Entry::bracketed_by))]
+fn bracketed(o: Scaled, far: f64) -> Result<(Scaled, Bracket), Reason>
+    ensures { checked reason_number result ≡ bracketed_by o far (time_at o far) }
 {
     let t = o.t;
     let time = o.time_at(far);
     if !exact::finite(time) {
-        return Start::Refused(Reason::NotFinite);
+        return Err(Reason::NotFinite);
     }
     let zero = Point { x: 0.0, time: 0.0 };
     let end = Point { x: far, time };
     if 0.0 <= t {
         if time < t {
-            return Start::Refused(Reason::BeyondFarEnd);
+            return Err(Reason::BeyondFarEnd);
         }
-        return Start::Passed(o, Bracket { lo: zero, hi: end });
+        return Ok((o, Bracket { lo: zero, hi: end }));
     }
     if t < time {
-        return Start::Refused(Reason::BeyondFarEnd);
+        return Err(Reason::BeyondFarEnd);
     }
-    Start::Passed(o, Bracket { lo: end, hi: zero })
+    Ok((o, Bracket { lo: end, hi: zero }))
 }

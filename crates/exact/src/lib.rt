@@ -11,7 +11,8 @@ ghost use Rattle.exact.specs.Numbers.{is_finite, magnitude, is_near, number_of, 
 // 2^-36, the tolerance of scaled time.
 const TOLERANCE: f64 = 1.4551915228366852e-11;
 
-// Whether x is a number: neither NaN nor an infinity.
+// Whether x is a number: neither NaN nor an infinity. By the two comparisons of the rule, each of which an edit
+// tries; the library's `is_finite` is a difference.
 pub fn finite(x: f64) -> bool
     ensures { result ≡ is_finite x }
 {
@@ -19,7 +20,7 @@ pub fn finite(x: f64) -> bool
     -infinity < x && x < infinity
 }
 
-// x without its sign: -0 gives 0, and NaN stays NaN.
+// x without its sign: -0 gives 0, and NaN stays NaN. In one comparison, where the library's `abs` makes two.
 pub fn absolute(x: f64) -> f64
     ensures { result ≡ magnitude x }
 {
@@ -48,7 +49,7 @@ pub fn number(w: u64) -> f64
 pub fn word(x: f64) -> u64
     ensures { result ≡ word_of x }
 {
-    if x != x {
+    if x.is_nan() {
         0x7ff8_0000_0000_0000
     } else {
         f64::to_bits(x)

@@ -1,5 +1,5 @@
 -- The line of a card in a deck's listing: RULES, The check program's listing, "The listing" below. Definitions only.
-use Rattle.std.specs.Prelude.{ℕ, List, [], ◌∷◌}
+use Rattle.std.specs.Prelude.{ℕ, List, [], ◌∷◌, Option}
 use Rattle.pieces.specs.Pieces.{joined}
 use Rattle.text.specs.Text.{text, count}
 use Rattle.tag.specs.declared.Tag.{Tag}
@@ -14,5 +14,5 @@ kind_word kind.Refused = text " refused"
 kind_word kind.Transfer = text " solved"
 
 -- The listing 2: a card's line, with its place, its object and epoch or that it has neither, and its verdict's number
-abbrev pub placed_line : (place : ℕ) → Kind → Tag → (verdict : ℕ) → List ℕ
+abbrev pub placed_line : (place : ℕ) → Kind → Option Tag → (verdict : ℕ) → List ℕ
 placed_line place kind tag verdict = joined (text "card" ∷ count place ∷ kind_word kind ∷ tag_text tag ∷ count verdict ∷ text "\n" ∷ [])

@@ -4,32 +4,33 @@
 #![tactic(auto)]
 
 ghost use Rattle.std.specs.Prelude.{◌≡◌};
-ghost use Rattle.pieces.specs.Pieces.{put_in, end_in, Put};
+ghost use Rattle.pieces.specs.Page.{written};
 ghost use Rattle.item.specs.Item.{kind_word, placed_line};
 
 use card::Kind;
+use pieces::Page;
 use tag::Tag;
 
-// `card PLACE KIND OBJECT EPOCH VERDICT`, from index at on, with `-` twice where there are no object and
-// epoch. Answers where it ends.
-pub fn line(place: u32, kind: Kind, tag: Tag, verdict: u32, page: &mut [u8], at: usize) -> usize
-    ensures value { result ≡ end_in page.old at (placed_line place kind tag verdict) }
-    ensures page_after { page.new ≡ put_in page.old at (placed_line place kind tag verdict) }
+// `card PLACE KIND OBJECT EPOCH VERDICT`, in a page, with `-` twice where there are no object and epoch. The
+// verdict is the number that the verdict list has.
+#[tactic(auto, using(pieces::proofs::Pages::pages))]
+pub fn line(place: u32, kind: Kind, tag: Option<Tag>, verdict: u32, page: &mut Page)
+    ensures { page.new ≡ written page.old (placed_line place kind tag verdict) }
 {
-    let mut end = pieces::put(page, at, b"card");
-    end = text::count(page, end, place);
-    end = kind_word(kind, page, end);
-    end = tag::put(tag, page, end);
-    end = text::count(page, end, verdict);
-    pieces::put(page, end, b"\n")
+    pieces::put(page, b"card");
+    text::count(page, place);
+    kind_word(kind, page);
+    tag::put(tag, page);
+    text::count(page, verdict);
+    pieces::put(page, b"\n");
 }
 
-fn kind_word(kind: Kind, page: &mut [u8], at: usize) -> usize
-    ensures { Put page.old at (kind_word kind) page.new result }
+fn kind_word(kind: Kind, page: &mut Page)
+    ensures { page.new ≡ written page.old (kind_word kind) }
 {
     match kind {
-        Kind::Solved => pieces::put(page, at, b" solved"),
-        Kind::Refused => pieces::put(page, at, b" refused"),
-        Kind::Transfer => pieces::put(page, at, b" solved"),
+        Kind::Solved => pieces::put(page, b" solved"),
+        Kind::Refused => pieces::put(page, b" refused"),
+        Kind::Transfer => pieces::put(page, b" solved"),
     }
 }

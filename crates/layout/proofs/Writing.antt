@@ -74,7 +74,7 @@ unfolding length_for buffer_after deck_for onward must
 deck_writes {d = d} {buffer = buffer} e h p = rw (e, le-leb (length (deck_of d)) (length buffer) h) (ap pass (front p h).0, stands p h)
 
 -- where no version is given nothing is written, and else what goes into a deck of that version
-pub no_version_writes : (number form : ℕ) (rest : Version → Checked Deck) (buffer : List ℕ) → version_given number form ≡ refuse 42 → Gives (onward (version_given number form) rest) buffer (refuse 42) buffer
+pub no_version_writes : (number form : ℕ) (rest : Version → Checked Deck) (buffer : List ℕ) {k : ℕ} → version_given number form ≡ refuse k → Gives (onward (version_given number form) rest) buffer (refuse k) buffer
 unfolding onward
 no_version_writes number form rest buffer e = refused_writes buffer (rw e refl)
 

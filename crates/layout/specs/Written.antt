@@ -2,9 +2,6 @@
 use Rattle.std.specs.Prelude.{ℕ, List, ◌++◌, leb, length, drop}
 use Rattle.rows.specs.Rows.{Checked, pass, refuse, must, onward}
 use Rattle.contents.specs.Contents.{Deck}
-use Rattle.ruling.specs.Said.{reason_number}
-use Rattle.layout.specs.declared.Written.{Written}
-use Rattle.layout.specs.declared.Written.TheVariants as written
 use Rattle.layout.specs.Layout.{deck_of}
 
 -- a deck's bytes, or 41 where the buffer is shorter than it
@@ -25,8 +22,3 @@ with_deck (refuse k) buffer = buffer
 
 unfoldable pub buffer_after : Checked Deck → (buffer : List ℕ) → List ℕ
 buffer_after m buffer = with_deck (deck_for m (length buffer)) buffer
-
--- an answer's length, or the number of its refusal
-abbrev pub said : Written → Checked ℕ
-said (written.Deck length) = pass length
-said (written.Refused why) = refuse (reason_number why)

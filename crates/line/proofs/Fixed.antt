@@ -10,5 +10,5 @@ use Rattle.line.proofs.line.Kinds as line-kinds
 pub width_fixes : Fixes 0 width-kinds.ps width-kinds.r width.Learnt
 width_fixes κs a x y v w p q = (one_result p q, refl)
 
-pub line_fixes : Fixes 2 line-kinds.ps line-kinds.r line.Learnt
-line_fixes κs a x y v w p q = (one_result p.0 q.0, ap (λ l. (tt, (tt, (l, (tt, tt))))) (one_result p.1 q.1))
+pub line_fixes : Fixes 3 line-kinds.ps line-kinds.r line.Learnt
+line_fixes κs a x y v w p q = (refl, ap (λ l. (tt, (tt, (l, tt)))) (one_result p q))

@@ -6,15 +6,16 @@
 #![tactic(auto)]
 
 ghost use Rattle.std.specs.Prelude.{◌≡◌};
-ghost use Rattle.pieces.specs.Pieces.{put_in, end_in, Put};
+ghost use Rattle.pieces.specs.Page.{written};
+ghost use Rattle.rows.specs.Rows.{stated};
 ghost use Rattle.conic.specs.Said as conic;
-ghost use Rattle.card.specs.Said as card;
 ghost use Rattle.lambert.specs.Lambert.{answer_to};
 ghost use Rattle.outcomes.specs.Outcomes.{transfer_line};
 ghost use Rattle.line.specs.Line as line;
 
-use card::Asked;
+use arc::Transfer;
 use conic::{Outcome, Problem};
+use pieces::Page;
 use ruling::Fault;
 
 // What is asked of each record.
@@ -28,7 +29,7 @@ pub enum Question {
     Series,
 }
 
-// The bytes of one record.
+// The bytes of one record. A match, here and below, and no trait: the definitions go by what is asked.
 pub fn width(asked: Question) -> usize
     ensures { result ≡ line.width_of asked }
 {
@@ -42,19 +43,18 @@ pub fn width(asked: Question) -> usize
     }
 }
 
-// Puts the line of one record, or its lines, into out from index at on, as far as out goes. Answers where
-// it ends.
-pub fn line(asked: Question, s: &[u8], out: &mut [u8], at: usize) -> usize
-    ensures value { result ≡ end_in out.old at (line.line_of asked s.now) }
-    ensures out_after { out.new ≡ put_in out.old at (line.line_of asked s.now) }
+// Puts the line of one record, or its lines, into a page, as far as it goes.
+#[tactic(auto, unfolding(crate::specs::Line::line_of))]
+pub fn line(asked: Question, s: &[u8], page: &mut Page)
+    ensures { page.new ≡ written page.old (line.line_of asked s.now) }
 {
     match asked {
-        Question::Root => sheets::put_root(root::root(card::number(s, 0)), out, at),
-        Question::Kepler => outcomes::put(kepler::kepler(card::problem(s)), out, at),
-        Question::Theta => outcomes::put(turned(card::problem(s)), out, at),
-        Question::Transfer => transfer_line(card::transfer(s), out, at),
-        Question::Digits => sheets::put_working(card::number(s, 0), out, at),
-        Question::Series => sums::put(card::number(s, 0), out, at),
+        Question::Root => sheets::put_root(root::root(card::number(s, 0)), page),
+        Question::Kepler => outcomes::put(kepler::kepler(card::problem(s)), page),
+        Question::Theta => outcomes::put(turned(card::problem(s)), page),
+        Question::Transfer => transfer_line(card::transfer(s), page),
+        Question::Digits => sheets::put_working(card::number(s, 0), page),
+        Question::Series => sums::put(card::number(s, 0), page),
     }
 }
 
@@ -65,12 +65,12 @@ fn turned(p: Problem) -> Outcome
     theta::theta(p.mu, p.r, p.v, p.dt)
 }
 
-// The line of a transfer; a way that is neither 0 nor 1 is refused.
-fn transfer_line(asked: Asked, out: &mut [u8], at: usize) -> usize
-    ensures { Put out.old at (transfer_line (answer_to (card.asked asked))) out.new result }
+// The line of a transfer; where there is none, its way being neither 0 nor 1, of the refusal.
+fn transfer_line(asked: Option<Transfer>, page: &mut Page)
+    ensures { page.new ≡ written page.old (transfer_line (answer_to (stated 23 asked))) }
 {
     match asked {
-        Asked::Transfer(q) => outcomes::put_transfer(lambert::lambert(q), out, at),
-        Asked::UnknownWay => outcomes::refused(Fault::WordNotAllowed.number(), 0, out, at),
+        Some(q) => outcomes::put_transfer(lambert::lambert(q), page),
+        None => outcomes::refused(Fault::WordNotAllowed.number(), 0, page),
     }
 }

@@ -1,1 +1,2 @@
+mod Refused
 pub mod Fixed

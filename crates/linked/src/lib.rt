@@ -16,11 +16,10 @@ ghost use Rattle.layout.specs.Written.{length_for, buffer_after};
 ghost use Rattle.problems.specs.Problems.{problem_deck};
 ghost use Rattle.linked.specs.Linked.{outcome_number, state_sum, velocity_sum, sum_after, minus_number, mean_in, size_after};
 
-use card::Asked;
-use conic::{Outcome, State};
-use deck::{Answer, Residuals};
-use layout::Written;
-use ruling::Fault;
+use conic::State;
+use deck::{Residuals, Totals};
+use ruling::{Fault, Reason};
+use search::Solution;
 
 // Kepler on the problem with which the bytes begin. Where it is solved the answer is 0, and `sum`
 // becomes x + rx + ry + rz + vx + vy + vz; else the refusal's number, and `sum` stays as it was lent.
@@ -30,37 +29,44 @@ pub extern "C" fn tailfiddle_predict(problem: &[u8], sum: &mut f64) -> u32
     ensures sum_after { sum.new ≡ sum_after state_sum (kepler_of (problem_of problem.now)) sum.old }
 {
     match kepler::kepler(card::problem(problem)) {
-        Outcome::Solved { x, count: _, state } => {
+        Ok(
+            Solution {
+                x,
+                found: state,
+                ..
+            },
+        ) => {
             *sum = state_sum(x, state);
             0
         }
-        Outcome::Refused(why, _) => why.number(),
-        Outcome::RefusedWithBracket(why, _, _, _) => why.number(),
+        Err(refusal) => refusal.why.number(),
     }
 }
 
 // The required velocity of the transfer with which the bytes begin. Where it is solved the answer is 0,
 // and `sum` becomes z + vx + vy + vz; else the refusal's number, 23 for a way that is neither 0 nor 1,
 // and `sum` stays as it was lent.
+// Its match stays beside that of the prediction: a trait for sum and number, each with two impls, is no plainer.
 #[unsafe(no_mangle)]
 pub extern "C" fn tailfiddle_transfer(transfer: &[u8], sum: &mut f64) -> u32
     ensures value { result ≡ outcome_number (answer_to (transfer_of transfer.now)) }
     ensures sum_after { sum.new ≡ sum_after velocity_sum (answer_to (transfer_of transfer.now)) sum.old }
 {
-    let Asked::Transfer(q) = card::transfer(transfer) else {
+    let Some(q) = card::transfer(transfer) else {
         return Fault::WordNotAllowed.number();
     };
     match lambert::lambert(q) {
-        lambert::Outcome::Solved {
-            z,
-            count: _,
-            velocity,
-        } => {
+        Ok(
+            Solution {
+                x: z,
+                found: velocity,
+                ..
+            },
+        ) => {
             *sum = z + velocity.x + velocity.y + velocity.z;
             0
         }
-        lambert::Outcome::Refused(why, _) => why.number(),
-        lambert::Outcome::RefusedWithBracket(why, _, _, _) => why.number(),
+        Err(refused) => refused.why.number(),
     }
 }
 
@@ -91,11 +97,11 @@ pub extern "C" fn tailfiddle_write(
     ensures size_after { size.new ≡ size_after (length_for (problem_deck version form problems.now) (length buffer.old)) size.old }
 {
     match problems::write(version, form, problems, buffer) {
-        Written::Deck(length) => {
+        Ok(length) => {
             *size = length;
             0
         }
-        Written::Refused(why) => why.number(),
+        Err(why) => why.number(),
     }
 }
 
@@ -105,18 +111,19 @@ fn state_sum(x: f64, state: State) -> f64
     x + state.r.x + state.r.y + state.r.z + state.v.x + state.v.y + state.v.z
 }
 
-fn mean_in(answer: Answer) -> f64
+fn mean_in(answer: Result<(Totals, Option<Residuals>), Reason>) -> f64
     ensures { result ≡ mean_in (deck.said answer) }
 {
     match answer {
-        Answer::Refused(why) => minus(why.number()),
-        Answer::Accepted(_, residuals) => match residuals {
-            Residuals::Absent => 0.0 / 0.0,
-            Residuals::Known { mean, worst: _ } => mean,
+        Err(why) => minus(why.number()),
+        Ok((_, residuals)) => match residuals {
+            None => 0.0 / 0.0,
+            Some(known) => known.mean,
         },
     }
 }
 
+// C gets the number of a refusal.
 fn minus(number: u32) -> f64
     ensures { result ≡ minus_number number }
 {

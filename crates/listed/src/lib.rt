@@ -5,39 +5,40 @@
 #![tactic(auto)]
 
 ghost use Rattle.std.specs.Prelude.{◌≡◌};
-ghost use Rattle.pieces.specs.Pieces.{put_in, end_in};
+ghost use Rattle.pieces.specs.Page.{written};
 ghost use Rattle.deck.specs.Said.{told};
 ghost use Rattle.listed.specs.Listed.{totals_line, residual_lines};
 
 use deck::{Residuals, Totals};
+use pieces::Page;
 
 // The three totals.
-pub fn totals_line(totals: Totals, page: &mut [u8], at: usize) -> usize
-    ensures value { result ≡ end_in page.old at (totals_line totals) }
-    ensures page_after { page.new ≡ put_in page.old at (totals_line totals) }
+#[tactic(auto, using(pieces::proofs::Pages::pages))]
+pub fn totals_line(totals: Totals, page: &mut Page)
+    ensures { page.new ≡ written page.old (totals_line totals) }
 {
-    let mut end = pieces::put(page, at, b"solved");
-    end = text::count(page, end, totals.solved);
-    end = pieces::put(page, end, b" refused");
-    end = text::count(page, end, totals.refused);
-    end = pieces::put(page, end, b" rejected");
-    end = text::count(page, end, totals.rejected);
-    pieces::put(page, end, b"\n")
+    pieces::put(page, b"solved");
+    text::count(page, totals.solved);
+    pieces::put(page, b" refused");
+    text::count(page, totals.refused);
+    pieces::put(page, b" rejected");
+    text::count(page, totals.rejected);
+    pieces::put(page, b"\n");
 }
 
 // Mean and worst, in seconds, or that there is neither.
-pub fn residual_lines(residuals: Residuals, page: &mut [u8], at: usize) -> usize
-    ensures value { result ≡ end_in page.old at (residual_lines (told residuals)) }
-    ensures page_after { page.new ≡ put_in page.old at (residual_lines (told residuals)) }
+#[tactic(auto, using(pieces::proofs::Pages::pages))]
+pub fn residual_lines(residuals: Option<Residuals>, page: &mut Page)
+    ensures { page.new ≡ written page.old (residual_lines (told residuals)) }
 {
     match residuals {
-        Residuals::Absent => pieces::put(page, at, b"mean none\nworst none\n"),
-        Residuals::Known { mean, worst } => {
-            let mut end = pieces::put(page, at, b"mean");
-            end = text::number(page, end, mean);
-            end = pieces::put(page, end, b"\nworst");
-            end = text::number(page, end, worst);
-            pieces::put(page, end, b"\n")
+        None => pieces::put(page, b"mean none\nworst none\n"),
+        Some(Residuals { mean, worst }) => {
+            pieces::put(page, b"mean");
+            text::number(page, mean);
+            pieces::put(page, b"\nworst");
+            text::number(page, worst);
+            pieces::put(page, b"\n");
         }
     }
 }

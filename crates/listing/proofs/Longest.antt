@@ -8,6 +8,7 @@ use native.Mathlib.Omega.{arith}
 use borrow.Author.Tests.{ltb-true, ltb-false}
 use lib.Dec.{ltb}
 use lib.Ieee.{Float}
+use Rattle.std.specs.Prelude.{Option}
 use lib.ListN.{length, length-append, length-map}
 use Rattle.pieces.specs.Pieces.{handed_in}
 use Rattle.text.specs.Text.{decimal}
@@ -65,7 +66,7 @@ refusal_digits card j e = length_under 10 j 2 (omega arith) (rejected_refusal ca
 
 -- at most 49 bytes, 32 of them for object and epoch, and the digits of the place; two less of a card accepted as solved, one less of one accepted as
 -- refused
-line_most : (place : ℕ) (k : Kind) (tag : Tag) → length (tag_text tag) ≤ 32 → (card : Parts) (v : Said) → verdict_on k card ≡ v → length (placed_line place k tag (number_in v)) + (2 * (counted nothing v).solved + (counted nothing v).refused) ≤ 49 + length (decimal 10 place)
+line_most : (place : ℕ) (k : Kind) (tag : Option Tag) → length (tag_text tag) ≤ 32 → (card : Parts) (v : Said) → verdict_on k card ≡ v → length (placed_line place k tag (number_in v)) + (2 * (counted nothing v).solved + (counted nothing v).refused) ≤ 49 + length (decimal 10 place)
 line_most place kind.Solved tag t card (solved x) e = simp length-append (omega (arith, accepted_digit))
 line_most place kind.Solved tag t card refused e = simp length-append (omega (arith, accepted_digit))
 line_most place kind.Solved tag t card (rejected j) e = simp length-append (omega (arith, rejected_digits kind.Solved card j e))

@@ -5,8 +5,9 @@ use Prim.Native.Nat.{ℕ, suc, ◌+◌, ◌≤◌, ◌<◌}
 use native.Mathlib.Omega.{arith}
 use lib.ListN.{length, get_or, length-append, length-map}
 use lib.Seq.{get_or_at}
-use Rattle.pieces.specs.Pieces.{Put}
-use Rattle.pieces.proofs.Puts.{puts, none, renamed}
+use Rattle.pieces.specs.declared.Page.{Page}
+use Rattle.pieces.specs.Page.{written}
+use Rattle.pieces.proofs.Pages.{two, nothing}
 use Rattle.rows.specs.Rows.{pass, onward}
 use Rattle.rows.proofs.Laws.{pass_once}
 use Rattle.version.specs.declared.Version.{Version}
@@ -60,17 +61,17 @@ place deck list count i j h =
     let numbers = numbers_of j.is.version j.is.cards in
     omega (arith, ap length j.numbers, length-append numbers j.behind, numbers_many j.is.version j.is.cards, j.as_many)
 
-pub record Showing (v : Version) (deck : List ℕ) (count : ℕ) (before page : List ℕ) (i at end : ℕ) : Type 0 where
+pub record Showing (v : Version) (deck : List ℕ) (count : ℕ) (before page : Page) (i at : ℕ) : Type 0 where
   pub met : List Card
   pub walk : Meeting v deck count i at met
   pub as_many : length met ≡ i
-  pub put : Put before 0 (card_lines v 1 met) page end
+  pub put : page ≡ written before (card_lines v 1 met)
 
-pub start : (v : Version) (deck : List ℕ) (count : ℕ) (page : List ℕ) → counted_in deck ≡ pass (v, count) → Showing v deck count page page 0 (entry_at count) 0
+pub start : (v : Version) (deck : List ℕ) (count : ℕ) (page : Page) → counted_in deck ≡ pass (v, count) → page.at ≤ length page.bytes.now → Showing v deck count page page 0 (entry_at count)
 unfolding card_lines
-start v deck count page h = record { met = []; walk = set_out v deck count h; as_many = refl; put = none (omega arith) }
+start v deck count page h inside = record { met = []; walk = set_out v deck count h; as_many = refl; put = sym (nothing page inside) }
 
-module _ {v : Version} {deck : List ℕ} {count : ℕ} {before page : List ℕ} {i at end : ℕ} (s : Showing v deck count before page i at end) where
+module _ {v : Version} {deck : List ℕ} {count : ℕ} {before page : Page} {i at : ℕ} (s : Showing v deck count before page i at) where
   -- the list has the verdict's number of the next card at its place
   number_is : (list : List ℕ) → Judged deck list count → (kind : Kind) → i < count → kind_at deck i ≡ pass kind → get_or list i 0 ≡ verdict_number v (card_at v deck kind at)
   number_is list j kind h e =
@@ -84,8 +85,8 @@ module _ {v : Version} {deck : List ℕ} {count : ℕ} {before page : List ℕ} 
       ap (λ (l : List ℕ). get_or l i 0) list_is ∙ get_or_at numbers (verdict_number v card) (numbers_of v m.0 ++ j.behind) 0 i (numbers_many v s.met ∙ s.as_many)
 
   -- a card's line is written
-  pub turn : (list : List ℕ) → Judged deck list count → (kind : Kind) {after : List ℕ} {stop : ℕ} → i < count → kind_at deck i ≡ pass kind
-      → Put page end (placed_line (i + 1) kind (tag_of v kind (card_at v deck kind at).body) (get_or list i 0)) after stop → Showing v deck count before after (i + 1) (at + size_of v kind) stop
+  pub turn : (list : List ℕ) → Judged deck list count → (kind : Kind) {after : Page} → i < count → kind_at deck i ≡ pass kind
+      → after ≡ written page (placed_line (i + 1) kind (tag_of v kind (card_at v deck kind at).body) (get_or list i 0)) → Showing v deck count before after (i + 1) (at + size_of v kind)
   turn list j kind h e p =
       let card = card_at v deck kind at in
       let place : i + 1 ≡ 1 + length s.met = omega (arith, s.as_many) in
@@ -94,9 +95,9 @@ module _ {v : Version} {deck : List ℕ} {count : ℕ} {before page : List ℕ} 
         met = s.met ++ (card ∷ []);
         walk = walk_on s.walk kind h e;
         as_many = length-append s.met (card ∷ []) ∙ ap (λ (k : ℕ). k + 1) s.as_many;
-        put = renamed (sym (lines_behind v 1 s.met card)) (puts s.put (renamed line-is p));
+        put = rw (p, s.put, two) (ap (λ (l : List ℕ). written before (card_lines v 1 s.met ++ l)) line-is ∙ ap (written before) (sym (lines_behind v 1 s.met card)));
       }
 
   -- after the last card
-  pub shown : count ≤ i → (d : Deck) → deck_in deck ≡ pass d → Put before 0 (card_lines v 1 d.cards) page end
-  shown h d e = renamed (ap (λ (l : Deck). card_lines v 1 l.cards) (all_met s.walk h d e)) s.put
+  pub shown : count ≤ i → (d : Deck) → deck_in deck ≡ pass d → page ≡ written before (card_lines v 1 d.cards)
+  shown h d e = s.put ∙ ap (λ (l : Deck). written before (card_lines v 1 l.cards)) (all_met s.walk h d e)

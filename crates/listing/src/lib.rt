@@ -5,17 +5,17 @@
 // assumes nothing.
 #![tactic(auto)]
 
-ghost use Rattle.std.specs.Prelude.{◌≡◌, length};
+ghost use Rattle.std.specs.Prelude.{◌≡◌, ◌≤◌, length};
 ghost use Rattle.rows.specs.Rows.{pass};
-ghost use Rattle.pieces.specs.Pieces.{Put, handed_in};
+ghost use Rattle.pieces.specs.Page.{written};
+ghost use Rattle.pieces.specs.Pieces.{handed_in};
 ghost use Rattle.version.specs.Version.{version_of};
 ghost use Rattle.contents.specs.Contents.{Deck, version_word, deck_in};
 ghost use Rattle.listing.specs.Listing as listing;
 ghost use Rattle.listing.specs.Judged.{Judged};
 
-use card::Named;
-use deck::Answer;
-use version::{Stated, Version};
+use pieces::Page;
+use version::Version;
 
 // The bytes of the longest listing.
 pub const ROOM: usize = 13279;
@@ -25,63 +25,57 @@ pub fn listing(deck: &[u8], out: &mut [u8]) -> usize
     ensures value { result ≡ length (listing.listing_of deck.now) }
     ensures out_after { out.new ≡ handed_in (listing.listing_of deck.now) out.old }
 {
-    let mut page = blank();
-    let end = write(deck, &mut page);
-    pieces::hand(&page[..end], out)
+    let mut whole = [0; ROOM];
+    let mut page = Page {
+        bytes: &mut whole,
+        at: 0,
+    };
+    write(deck, &mut page);
+    let end = page.at;
+    pieces::hand(&whole[..end], out)
 }
 
-// A page with room for any listing.
-fn blank() -> [u8; ROOM]
-    ensures { listing.longest_listing ≡ length result }
-{
-    [0; ROOM]
-}
-
-// The listing, from the page's first byte on.
-fn write(deck: &[u8], page: &mut [u8]) -> usize
-    ensures { Put page.old 0 (listing.listing_of deck.now) page.new result }
+// The listing.
+fn write(deck: &[u8], page: &mut Page)
+    requires { page.old.at ≤ length page.old.bytes.now }
+    ensures { page.new ≡ written page.old (listing.listing_of deck.now) }
 {
     let mut verdicts = [0u32; contents::MOST_CARDS];
     match deck::check(deck, &mut verdicts) {
-        Answer::Refused(why) => reply::refused(why.number(), page),
-        Answer::Accepted(totals, residuals) => {
+        Err(why) => reply::refused(why.number(), page),
+        Ok((totals, residuals)) => {
             let count = totals.solved + totals.refused + totals.rejected;
-            let shown = cards(deck, &verdicts, count, page);
-            let totalled = listed::totals_line(totals, page, shown);
-            listed::residual_lines(residuals, page, totalled)
+            cards(deck, &verdicts, count, page);
+            listed::totals_line(totals, page);
+            listed::residual_lines(residuals, page);
         }
     }
 }
 
 // A line for each card of an accepted deck, which has a version.
-fn cards(deck: &[u8], verdicts: &[u32], count: u32, page: &mut [u8]) -> usize
-    requires { Judged deck.now verdicts.now count }
-    ensures { (d : Deck) → deck_in deck.now ≡ pass d → Put page.old 0 (listing.card_lines d.version 1 d.cards) page.new result }
+fn cards(deck: &[u8], verdicts: &[u32], count: u32, page: &mut Page)
+    requires { Judged deck.now verdicts.now count × (page.old.at ≤ length page.old.bytes.now) }
+    ensures { (d : Deck) → deck_in deck.now ≡ pass d → page.new ≡ written page.old (listing.card_lines d.version 1 d.cards) }
 {
-    let Stated::Version(version) = version::named(words::half(deck, 0)) else {
-        return 0;
+    let Some(version) = version::named(words::half(deck, 0)) else {
+        return;
     };
-    card_lines(deck, version, verdicts, count, page)
+    card_lines(deck, version, verdicts, count, page);
 }
 
 // The same in a version. No card is without a kind.
-fn card_lines(deck: &[u8], version: Version, verdicts: &[u32], count: u32, page: &mut [u8]) -> usize
-    requires { Judged deck.now verdicts.now count × (version_of (version_word deck.now) ≡ pass version) }
-    ensures { (d : Deck) → deck_in deck.now ≡ pass d → Put page.old 0 (listing.card_lines version 1 d.cards) page.new result }
+fn card_lines(deck: &[u8], version: Version, verdicts: &[u32], count: u32, page: &mut Page)
+    requires { Judged deck.now verdicts.now count × (version_of (version_word deck.now) ≡ pass version) × (page.old.at ≤ length page.old.bytes.now) }
+    ensures { (d : Deck) → deck_in deck.now ≡ pass d → page.new ≡ written page.old (listing.card_lines version 1 d.cards) }
 {
-    let mut i = 0u32;
     let mut at = contents::HEADER + contents::ENTRY * count as usize;
-    let mut end = 0;
-    while i < count {
-        let place = i as usize;
-        let Named::Kind(kind) = contents::kind_at(deck, i) else {
-            return end;
+    for i in 0..count {
+        let Some(kind) = contents::kind_at(deck, i) else {
+            return;
         };
         let next = at + kind.size(version);
         let tag = card::tag(version, kind, &deck[at..next]);
-        end = item::line(i + 1, kind, tag, verdicts[place], page, end);
+        item::line(i + 1, kind, tag, verdicts[i as usize], page);
         at = next;
-        i += 1;
     }
-    end
 }

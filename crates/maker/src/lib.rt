@@ -7,11 +7,12 @@
 
 ghost use Rattle.std.specs.Prelude.{◌≡◌, ◌≤◌, length};
 ghost use Rattle.stdio.specs.Counts.{IsPrefixLen};
-ghost use Rattle.layout.specs.Written.{length_for, buffer_after, said};
+ghost use Rattle.rows.specs.Rows.{checked};
+ghost use Rattle.ruling.specs.Said.{reason_number};
+ghost use Rattle.layout.specs.Written.{length_for, buffer_after};
 ghost use Rattle.reply.specs.Reply.{reply_of};
 ghost use Rattle.maker.specs.Made.{asked_deck, deck_made, read_of};
 
-use layout::Written;
 use ruling::Reason;
 use std::io::{Read, Write};
 
@@ -58,8 +59,8 @@ fn read<R: Read>(input: &mut R, asked: Asked, space: &mut [u8], most: usize) -> 
 }
 
 // Makes the deck at the front of the page.
-fn made(asked: Asked, given: &[u8], page: &mut [u8]) -> Written
-    ensures result_value { said result ≡ length_for (deck_made asked given.now) (length page.old) }
+fn made(asked: Asked, given: &[u8], page: &mut [u8]) -> Result<usize, Reason>
+    ensures result_value { checked reason_number result ≡ length_for (deck_made asked given.now) (length page.old) }
     ensures page_after { page.new ≡ buffer_after (deck_made asked given.now) page.old }
 {
     match asked {
@@ -69,12 +70,12 @@ fn made(asked: Asked, given: &[u8], page: &mut [u8]) -> Written
 }
 
 // Makes the deck of problems, which come behind its version and their form.
-fn problems_made(given: &[u8], page: &mut [u8]) -> Written
-    ensures result_value { said result ≡ length_for (asked_deck given.now) (length page.old) }
+fn problems_made(given: &[u8], page: &mut [u8]) -> Result<usize, Reason>
+    ensures result_value { checked reason_number result ≡ length_for (asked_deck given.now) (length page.old) }
     ensures page_after { page.new ≡ buffer_after (asked_deck given.now) page.old }
 {
     if given.len() < ASKED {
-        return Written::Refused(Reason::OtherForm);
+        return Err(Reason::OtherForm);
     }
     let number = words::half(given, 0);
     let form = words::half(given, 4);

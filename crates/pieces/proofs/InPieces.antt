@@ -1,25 +1,24 @@
 -- A loop that writes piece by piece what a definition makes from the front: what is left, written where the last piece ended, makes the whole.
-use mathlib.Core.Path.{◌≡◌, refl, sym, ◌∙◌}
+use mathlib.Core.Path.{◌≡◌, refl, sym, ap, ◌∙◌}
 use mathlib.Core.List.{List, [], ◌++◌}
 use Prim.Native.Nat.{ℕ, ◌≤◌}
 use lib.ListN.{length}
-use Rattle.pieces.specs.Pieces.{Put}
-use Rattle.pieces.proofs.Puts as laws
-use Rattle.pieces.proofs.Puts.{puts, none, renamed}
+use Rattle.pieces.specs.declared.Page.{Page}
+use Rattle.pieces.specs.Page.{written}
+use Rattle.pieces.proofs.Pages as pages
 
-pub record InPieces (before : List ℕ) (start : ℕ) (whole out : List ℕ) (end : ℕ) (left : List ℕ) : Type 0 where
-  pub inside : end ≤ length out
-  pub as_long : length out ≡ length before
-  to_come : (after : List ℕ) (stop : ℕ) → Put out end left after stop → Put before start whole after stop
+pub record InPieces (start : Page) (whole : List ℕ) (page : Page) (left : List ℕ) : Type 0 where
+  pub inside : page.at ≤ length page.bytes.now
+  to_come : written page left ≡ written start whole
 
 -- before the first piece
-pub nothing_yet : (whole : List ℕ) {out : List ℕ} {start : ℕ} → start ≤ length out → InPieces out start whole out start whole
-nothing_yet whole h = record { inside = h; as_long = refl; to_come = λ after stop p. p }
+pub nothing_yet : {page : Page} (whole : List ℕ) → page.at ≤ length page.bytes.now → InPieces page whole page whole
+nothing_yet whole h = record { inside = h; to_come = refl }
 
 -- a piece of what is left is written
-pub one_on : {before whole out left piece rest after : List ℕ} {start end stop : ℕ} → InPieces before start whole out end left → piece ++ rest ≡ left → Put out end piece after stop → InPieces before start whole after stop rest
-one_on g e p = record { inside = laws.inside p; as_long = laws.as_long p ∙ g.as_long; to_come = λ last stop' q. g.to_come last stop' (renamed e (puts p q)) }
+pub one_on : {start page after : Page} {whole left rest : List ℕ} (piece : List ℕ) → InPieces start whole page left → piece ++ rest ≡ left → after ≡ written page piece → InPieces start whole after rest
+one_on {page = page} piece g e p = record { inside = rw p (pages.inside page piece); to_come = rw (p, pages.two) (ap (written page) e ∙ g.to_come) }
 
 -- nothing is left
-pub all_there : {before whole out left : List ℕ} {start end : ℕ} → InPieces before start whole out end left → left ≡ [] → Put before start whole out end
-all_there {out = out} {end = end} g e = g.to_come out end (renamed (sym e) (none g.inside))
+pub all_there : {start page : Page} {whole left : List ℕ} → InPieces start whole page left → left ≡ [] → page ≡ written start whole
+all_there {page = page} g e = sym (pages.nothing page g.inside) ∙ ap (written page) (sym e) ∙ g.to_come

@@ -1,3 +1,4 @@
 pub mod Puts
 pub mod InPieces
 pub mod Fixed
+pub mod Pages

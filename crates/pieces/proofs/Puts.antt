@@ -2,15 +2,15 @@
 -- stands at the front at the end.
 use mathlib.Core.Path.{◌≡◌, refl, sym, ap, ◌∙◌, subst}
 use mathlib.Core.Bool.{Bool, true, false, cond}
-use mathlib.Core.List.{List, [], ◌∷◌, ◌++◌, append-nil}
-use Prim.Native.Nat.{ℕ, suc, ◌+◌, ◌-◌, ◌≤◌, ◌<◌, min}
+use mathlib.Core.List.{List, [], ◌∷◌, ◌++◌, append-nil, append_assoc}
+use Prim.Native.Nat.{ℕ, zero, suc, ◌+◌, ◌-◌, ◌≤◌, ◌<◌, min}
 use native.Mathlib.Nat.{suc-add, add-suc, add-zero, zero-add, min-eq_left}
-use native.Mathlib.Numerals.{add-one}
 use native.Mathlib.Omega.{arith}
 use borrow.Author.Tests.{leb-true, leb-false, le-leb}
 use lib.Dec.{leb}
-use lib.ListN.{length, take, drop, set, get_or, length-append, take-append-drop}
-use lib.Seq.{sets, length-sets, sets-eq, set_out, set_comm, take-suc, take-length, length-take-le, take-append_seam}
+use lib.ListN.{length, take, drop, set, length-append, length-set}
+use lib.Seq.{sets, length-sets, sets-eq, set_out, set_comm, drop-drop, length-take-le, take-append_seam}
+use borrow.Rule.Slice.PartMut.{put_mid}
 use Rattle.pieces.specs.Pieces.{joined, put_in, end_in, Put, handed_in}
 
 sets_append : (l : List ℕ) (at : ℕ) (s t : List ℕ) → sets l at (s ++ t) ≡ sets (sets l at s) (at + length s) t
@@ -156,37 +156,30 @@ pub handed_on : (buffer : List ℕ) {before after whole held : List ℕ} {end n 
     → (n ≡ length (take end after)) × (held ≡ handed_in (take end after) buffer) → (n ≡ length whole) × (held ≡ handed_in whole buffer)
 handed_on buffer p h q = let whole_is = (front p h).1 in (q.0 ∙ ap length whole_is, q.1 ∙ ap (λ (l : List ℕ). handed_in l buffer) whole_is)
 
--- one byte more of a copy
-pub one_more : (l : List ℕ) (at : ℕ) (s : List ℕ) (i : ℕ) → i < length s → set (sets l at (take i s)) (at + i) (get_or s i 0) ≡ sets l at (take (i + 1) s)
-one_more l at s i h =
-    let there : length (take i s) ≡ i = length-take-le i s (omega arith) in
-    ap (λ (k : ℕ). set (sets l at (take i s)) (at + k) (get_or s i 0)) (sym there)
-    ∙ sym (sets_append l at (take i s) (get_or s i 0 ∷ []))
-    ∙ ap (sets l at) (sym (take-suc s i 0 h) ∙ ap (λ (k : ℕ). take k s) (sym (add-one i)))
+-- what goes past the end may as well not be written
+cut : (l : List ℕ) (at : ℕ) (s : List ℕ) (n : ℕ) → min (length s) (length l - at) ≤ n → sets l at (take n s) ≡ sets l at s
+cut l at [] zero h = refl
+cut l at (b ∷ s) zero h = sym (sets_beyond l at (b ∷ s) (omega arith))
+cut l at [] (suc n) h = refl
+cut l at (b ∷ s) (suc n) h = cut (set l at b) (suc at) s n (omega (arith, length-set l at b))
 
--- as much of a piece as there is room for is all that is written of it
-pub as_far : (l : List ℕ) (at : ℕ) (s : List ℕ) → at ≤ length l → Put l at s (sets l at (take (min (length s) (length l - at)) s)) (at + min (length s) (length l - at))
+-- as many bytes written over as many in a buffer
+pub over : (l : List ℕ) (at n : ℕ) (s : List ℕ) → at + n ≤ length l → n ≡ length s → put_mid at (at + n - at) l s ≡ sets l at s
+over l at n s h e =
+    let end : at + (at + n - at) ≡ at + length s = omega arith in
+    ap (λ (rest : List ℕ). take at l ++ (s ++ rest)) (drop-drop (at + n - at) at l ∙ ap (λ (k : ℕ). drop k l) end)
+    ∙ sym (append_assoc (take at l) s (drop (at + length s) l))
+    ∙ sym (sets-eq s l at (omega arith))
+
+-- as much of a piece as there is room for, written over as many bytes from its place on, or from the end on, is all that is written of it
+pub as_far : (l : List ℕ) (at : ℕ) (s : List ℕ) {start n : ℕ} {piece : List ℕ} → start ≡ min at (length l) → n ≡ min (length s) (length l - start) → piece ≡ take n s → Put l at s (put_mid start (start + n - start) l piece) (start + n)
 unfolding put_in end_in
-as_far l at s h = go (leb (length s) (length l - at)) refl
-  where
-    go : (b : Bool) → leb (length s) (length l - at) ≡ b → Put l at s (sets l at (take (min (length s) (length l - at)) s)) (at + min (length s) (length l - at))
-    go true e =
-        let fits : length s ≤ length l - at = leb-true (length s) (length l - at) e in
-        let all : min (length s) (length l - at) ≡ length s = min-eq_left fits in
-        record { ends = omega (arith, all, fits); holds = rw all (ap (sets l at) (take-length s)) }
-    go false e =
-        let over : length l - at < length s = leb-false (length s) (length l - at) e in
-        let some : min (length s) (length l - at) ≡ length l - at = omega arith in
-        let n : ℕ = length l - at in
-        let taken : length (take n s) ≡ n = length-take-le n s (omega arith) in
-        record {
-          ends = omega (arith, some, over);
-          holds =
-              rw some
-              (sym (sets_beyond (sets l at (take n s)) (at + length (take n s)) (drop n s) (rw (taken, length-sets l at (take n s)) (omega arith)))
-              ∙ sym (sets_append l at (take n s) (drop n s))
-              ∙ ap (sets l at) (take-append-drop n s));
-        }
+as_far l at s {start} {n} {piece} b m e =
+    let long : n ≡ length piece = sym (ap length e ∙ length-take-le n s (omega arith)) in
+    record {
+      ends = omega arith;
+      holds = over l start n piece (omega arith) long ∙ ap (sets l start) e ∙ cut l start s n (omega arith) ∙ ap (λ (k : ℕ). sets l k s) b ∙ clamped l at s;
+    }
 
 -- a writer's two equations are one piece written, and a piece written is two equations
 pub wrote : {before after piece : List ℕ} {at end : ℕ} → (end ≡ end_in before at piece) × (after ≡ put_in before at piece) → Put before at piece after end

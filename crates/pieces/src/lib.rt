@@ -4,21 +4,25 @@
 // Every function here is proved, the public ones are total, and the crate assumes nothing.
 #![tactic(auto)]
 
-ghost use Rattle.std.specs.Prelude.{◌≡◌, ◌+◌, ◌≤◌, min, length, take};
-ghost use Rattle.std.proofs.lemmas.List.Edits.{sets};
-ghost use Rattle.pieces.specs.Pieces.{put_in, end_in, handed_in};
+ghost use Rattle.std.specs.Prelude.{◌≡◌, length};
+ghost use Rattle.pieces.specs.Pieces.{handed_in};
+ghost use Rattle.pieces.specs.Page.{written};
 
-// Puts s into out from index at on, as far as out goes. Answers where it ends.
-pub fn put(out: &mut [u8], at: usize, s: &[u8]) -> usize
-    ensures value { result ≡ end_in out.old at s.now }
-    ensures out_after { out.new ≡ put_in out.old at s.now }
+// A lent buffer, and where the next piece begins in it.
+#[derive(Drop)]
+pub struct Page<'a> {
+    pub bytes: &'a mut [u8],
+    pub at: usize,
+}
+
+// Puts s into a page, as far as the page goes.
+pub fn put(page: &mut Page, s: &[u8])
+    ensures { page.new ≡ written page.old s.now }
 {
-    if out.len() < at {
-        return out.len();
-    }
-    let n = least(s.len(), out.len() - at);
-    copy(out, at, s, n);
-    at + n
+    let start = page.at.min(page.bytes.len());
+    let n = s.len().min(page.bytes.len() - start);
+    page.bytes[start..start + n].copy_from_slice(&s[..n]);
+    page.at = start + n;
 }
 
 // Hands a whole over in out, if out has room for it. Answers how long the whole is.
@@ -27,25 +31,7 @@ pub fn hand(whole: &[u8], out: &mut [u8]) -> usize
     ensures out_after { out.new ≡ handed_in whole.now out.old }
 {
     if whole.len() <= out.len() {
-        copy(out, 0, whole, whole.len());
+        out[..whole.len()].copy_from_slice(whole);
     }
     whole.len()
-}
-
-// The first n bytes of s, into out from index at on.
-fn copy(out: &mut [u8], at: usize, s: &[u8], n: usize)
-    requires { (at + n ≤ length out.old) × (n ≤ length s.now) }
-    ensures { out.new ≡ sets out.old at (take n s.now) }
-{
-    let mut i = 0;
-    while i < n {
-        out[at + i] = s[i];
-        i += 1;
-    }
-}
-
-fn least(a: usize, b: usize) -> usize
-    ensures { result ≡ min a b }
-{
-    if a < b { a } else { b }
 }

@@ -6,5 +6,5 @@ use Rattle.predicted.proofs.Theorems.{said_once}
 use Rattle.predicted.proofs.put.Reads as put
 use Rattle.predicted.proofs.put.Kinds as put-kinds
 
-pub put_fixes : Fixes 2 put-kinds.ps put-kinds.r put.Learnt
-put_fixes κs a x y v w p q = (one_answer said_once x y p.0 q.0, ap (λ l. (tt, (tt, (l, (tt, tt))))) (one_result p.1 q.1))
+pub put_fixes : Fixes 3 put-kinds.ps put-kinds.r put.Learnt
+put_fixes κs a x y v w p q = (one_answer said_once x y p.0 q.0, ap (λ l. (tt, (tt, (l, tt)))) (one_result p.1 q.1))

@@ -1,6 +1,7 @@
 -- The card that a problem makes: RULES, Writing a deck 2. Definitions only.
 use Rattle.std.specs.Prelude.{ℕ, List, [], ◌∷◌, ◌++◌, leb, length, take, drop}
-use Rattle.pieces.specs.Pieces.{put_in, end_in}
+use Rattle.pieces.specs.declared.Page.{Page}
+use Rattle.pieces.specs.Page.{written}
 use Rattle.spelled.specs.Spelled.{bytes_of}
 use Rattle.words.specs.Words.{value_at, words_bytes}
 use Rattle.rows.specs.Rows.{Checked, pass, refuse, must, onward}
@@ -11,10 +12,7 @@ use Rattle.card.specs.declared.Kind.{Kind}
 use Rattle.card.specs.Fields as card
 use Rattle.card.specs.Fields.{problem_size, given_size, problem_of}
 use Rattle.card.specs.Made.{body_of, answer_for, card_for}
-use Rattle.ruling.specs.Said.{reason_number}
 use Rattle.predicted.specs.declared.Card.{Card}
-use Rattle.predicted.specs.declared.Placed.{Placed}
-use Rattle.predicted.specs.declared.Placed.TheVariants as place
 
 -- the card of a problem, from its bytes, behind which object and epoch may stand: Kepler is run on it
 abbrev pub card_of : (given : List ℕ) → card.Card
@@ -26,19 +24,14 @@ first_card v problems =
     must (leb (given_size v) (length problems)) 46
     (pass (card_of (take (given_size v) problems)))
 
--- a card's body put into a buffer from index `at` on: its kind, and where the body ends
-unfoldable pub placed_in : (out : List ℕ) (at : ℕ) → Checked card.Card → Checked (Kind × ℕ)
-placed_in out at m = onward m (λ c. pass (c.kind, end_in out at c.body))
+-- the kind of a card whose body is put into a page
+unfoldable pub kind_placed : Checked card.Card → Checked Kind
+kind_placed m = onward m (λ c. pass c.kind)
 
--- and the buffer afterwards. What is refused alters nothing
-abbrev pub with_body : (out : List ℕ) (at : ℕ) → Checked card.Card → List ℕ
-with_body out at (pass c) = put_in out at c.body
-with_body out at (refuse k) = out
-
--- an answer's kind and end, or the number of its refusal
-abbrev pub said : Placed → Checked (Kind × ℕ)
-said (place.Card kind end) = pass (kind, end)
-said (place.Refused why) = refuse (reason_number why)
+-- and the page afterwards. What is refused alters nothing
+abbrev pub with_body : Page → Checked card.Card → Page
+with_body page (pass c) = written page c.body
+with_body page (refuse k) = page
 
 -- the words of a problem's eight numbers
 abbrev pub words_in : (given : List ℕ) → List ℕ

@@ -5,17 +5,20 @@
 #![tactic(auto)]
 
 ghost use Rattle.std.specs.Prelude.{◌≡◌, ◌≤◌, length};
-ghost use Rattle.pieces.specs.Pieces.{Put};
+ghost use Rattle.rows.specs.Rows.{checked};
+ghost use Rattle.ruling.specs.Said.{reason_number};
+ghost use Rattle.pieces.specs.Page.{written};
 ghost use Rattle.words.specs.Words.{words_bytes};
 ghost use Rattle.version.specs.Version.{largest_tag};
 ghost use Rattle.conic.specs.Said as conic;
 ghost use Rattle.kepler.specs.Kepler.{kepler_of};
 ghost use Rattle.card.specs.Fields.{problem_size, problem_of};
 ghost use Rattle.card.specs.Made.{solved_answer, kind_for, answer_for};
-ghost use Rattle.predicted.specs.Predicted.{first_card, placed_in, with_body, said, words_in, given_in, fields_held, body_held};
+ghost use Rattle.predicted.specs.Predicted.{first_card, kind_placed, with_body, words_in, given_in, fields_held, body_held};
 
 use card::Kind;
 use conic::{Outcome, Problem, State};
+use pieces::Page;
 use ruling::Reason;
 use version::Version;
 
@@ -28,41 +31,36 @@ pub struct Card {
     outcome: Outcome,
 }
 
-// The kind of a problem's card and where its body ends, or why there is none.
-#[derive(Clone, Copy)]
-pub enum Placed {
-    Card(Kind, usize),
-    Refused(Reason),
-}
-
 // Predicts the problem with which the bytes begin and puts the body of its card in a deck of this version
-// into out from index at on, as far as out goes. Object and epoch stand behind the problem where the
-// version has them, and go to the card as they are.
-pub fn put(version: Version, problems: &[u8], out: &mut [u8], at: usize) -> Placed
-    ensures result_value { said result ≡ placed_in out.old at (first_card version problems.now) }
-    ensures out_after { out.new ≡ with_body out.old at (first_card version problems.now) }
+// into a page, as far as it goes. Object and epoch stand behind the problem where the version has them, and
+// go to the card as they are. Answers the card's kind.
+pub fn put(version: Version, problems: &[u8], page: &mut Page) -> Result<Kind, Reason>
+    ensures result_value { checked reason_number result ≡ kind_placed (first_card version problems.now) }
+    ensures page_after { page.new ≡ with_body page.old (first_card version problems.now) }
 {
     let size = card::given_size(version);
     if problems.len() < size {
-        return Placed::Refused(Reason::BytesDoNotFit);
+        return Err(Reason::BytesDoNotFit);
     }
     let made = answered(&problems[..card::PROBLEM]);
-    let outcome = made.outcome;
-    let kind = kind_of(outcome);
-    Placed::Card(
-        kind,
-        put_body(made, &problems[card::PROBLEM..size], kind, out, at),
-    )
+    let kind = kind_of(made.outcome);
+    put_body(made, &problems[card::PROBLEM..size], kind, page);
+    Ok(kind)
 }
 
 // The body of a card.
-fn put_body(made: Card, tag: &[u8], kind: Kind, page: &mut [u8], at: usize) -> usize
+fn put_body(made: Card, tag: &[u8], kind: Kind, page: &mut Page)
     requires { (length (given_in made) ≡ problem_size) × (length tag.now ≤ largest_tag) }
-    ensures { Put page.old at (body_held kind made tag.now) page.new result }
+    ensures { page.new ≡ written page.old (body_held kind made tag.now) }
 {
     let mut fields = [0u8; card::FIELDS];
-    let end = put_card(made, tag, &mut fields, 0);
-    layout::put_body(kind, &fields[..end], page, at)
+    let mut list = Page {
+        bytes: &mut fields,
+        at: 0,
+    };
+    put_card(made, tag, &mut list);
+    let end = list.at;
+    layout::put_body(kind, &fields[..end], page);
 }
 
 // The card of one problem.
@@ -74,7 +72,7 @@ fn answered(given: &[u8]) -> Card
     let problem = card::problem(given);
     Card {
         given: words_of(given),
-        problem: problem,
+        problem,
         outcome: kepler::kepler(problem),
     }
 }
@@ -83,83 +81,56 @@ fn answered(given: &[u8]) -> Card
 fn words_of(given: &[u8]) -> [u64; 8]
     ensures { result ≡ words_in given.now }
 {
-    [
-        words::word(given, 0),
-        words::word(given, 8),
-        words::word(given, 16),
-        words::word(given, 24),
-        words::word(given, 32),
-        words::word(given, 40),
-        words::word(given, 48),
-        words::word(given, 56),
-    ]
+    [0, 8, 16, 24, 32, 40, 48, 56].map(|at| words::word(given, at))
 }
 
 fn kind_of(outcome: Outcome) -> Kind
     ensures { result ≡ kind_for (conic.said outcome) }
 {
     match outcome {
-        Outcome::Solved {
-            x: _,
-            count: _,
-            state: _,
-        } => Kind::Solved,
-        Outcome::Refused(_, _) => Kind::Refused,
-        Outcome::RefusedWithBracket(_, _, _, _) => Kind::Refused,
+        Ok(_) => Kind::Solved,
+        Err(_) => Kind::Refused,
     }
 }
 
 // A card's fields, without spares.
-fn put_card(made: Card, tag: &[u8], fields: &mut [u8], at: usize) -> usize
-    requires { at ≤ length fields.old }
-    ensures { Put fields.old at (fields_held made tag.now) fields.new result }
+#[tactic(auto, using(pieces::proofs::Pages::pages))]
+fn put_card(made: Card, tag: &[u8], page: &mut Page)
+    requires { page.old.at ≤ length page.old.bytes.now }
+    ensures { page.new ≡ written page.old (fields_held made tag.now) }
 {
-    let given = made.given;
-    let outcome = made.outcome;
-    let numbers = put_words(fields, at, &given);
-    let limit = words::put_half(fields, numbers, made.problem.limit);
-    let end = pieces::put(fields, limit, tag);
-    put_answer(outcome, fields, end)
+    put_words(page, &made.given);
+    words::put_half(page, made.problem.limit);
+    pieces::put(page, tag);
+    put_answer(made.outcome, page);
 }
 
 // x, position and velocity, or the refusal's number.
-fn put_answer(outcome: Outcome, fields: &mut [u8], at: usize) -> usize
-    requires { at ≤ length fields.old }
-    ensures { Put fields.old at (answer_for (conic.said outcome)) fields.new result }
+fn put_answer(outcome: Outcome, page: &mut Page)
+    requires { page.old.at ≤ length page.old.bytes.now }
+    ensures { page.new ≡ written page.old (answer_for (conic.said outcome)) }
 {
     match outcome {
-        Outcome::Solved { x, count: _, state } => put_solved(x, state, fields, at),
-        Outcome::Refused(why, _) => words::put_half(fields, at, why.number()),
-        Outcome::RefusedWithBracket(why, _, _, _) => words::put_half(fields, at, why.number()),
+        Ok(solution) => put_solved(solution.x, solution.found, page),
+        Err(refusal) => words::put_half(page, refusal.why.number()),
     }
 }
 
-fn put_solved(x: f64, state: State, fields: &mut [u8], at: usize) -> usize
-    requires { at ≤ length fields.old }
-    ensures { Put fields.old at (solved_answer x state) fields.new result }
+fn put_solved(x: f64, state: State, page: &mut Page)
+    requires { page.old.at ≤ length page.old.bytes.now }
+    ensures { page.new ≡ written page.old (solved_answer x state) }
 {
-    let answer = [
-        exact::word(x),
-        exact::word(state.r.x),
-        exact::word(state.r.y),
-        exact::word(state.r.z),
-        exact::word(state.v.x),
-        exact::word(state.v.y),
-        exact::word(state.v.z),
-    ];
-    put_words(fields, at, &answer)
+    let State { r, v } = state;
+    let answer = [x, r.x, r.y, r.z, v.x, v.y, v.z].map(exact::word);
+    put_words(page, &answer);
 }
 
 // Words of eight bytes, one behind the other.
-fn put_words(out: &mut [u8], at: usize, list: &[u64]) -> usize
-    requires { at ≤ length out.old }
-    ensures { Put out.old at (words_bytes list.now) out.new result }
+fn put_words(page: &mut Page, list: &[u64])
+    requires { page.old.at ≤ length page.old.bytes.now }
+    ensures { page.new ≡ written page.old (words_bytes list.now) }
 {
-    let mut end = at;
-    let mut i = 0;
-    while i < list.len() {
-        end = words::put_word(out, end, list[i]);
-        i += 1;
+    for word in list {
+        words::put_word(page, *word);
     }
-    end
 }

@@ -1,15 +1,18 @@
 -- The loop that answers problems, turn by turn: the kinds and the bodies of the cards of the problems so far stand in their list and on the page.
 use mathlib.Core.Path.{◌≡◌, sym, ap, ◌∙◌}
 use mathlib.Core.List.{List, [], ◌∷◌, ◌++◌}
-use Prim.Native.Nat.{ℕ, zero, suc, ◌+◌, ◌-◌, ◌*◌, ◌/◌, ◌≤◌, ◌<◌}
-use native.Mathlib.Nat.{add_comm, mul-zero, mul-suc, le_trans}
+use Prim.Native.Nat.{ℕ, zero, suc, ◌+◌, ◌*◌, ◌/◌, ◌≤◌, ◌<◌}
+use native.Mathlib.Nat.{add_comm, mul-zero, mul-suc}
 use native.Mathlib.Numerals.{add-one}
 use native.Mathlib.Omega.{arith}
 use lib.ListN.{length, take, drop, set, length-drop}
 use lib.Seq.{drop-drop}
 use Rattle.pieces.specs.Pieces.{Put}
+use Rattle.pieces.specs.declared.Page.{Page}
+use Rattle.pieces.specs.Page.{written}
 use Rattle.pieces.proofs.Puts as pieces
 use Rattle.pieces.proofs.Puts.{puts, none, renamed, at_once}
+use Rattle.pieces.proofs.Pages.{two, nothing}
 use Rattle.rows.specs.Rows.{pass}
 use Rattle.version.specs.declared.Version.{Version}
 use Rattle.card.specs.declared.Kind.{Kind}
@@ -17,10 +20,10 @@ use Rattle.card.specs.Fields.{Card, kind_number, given_size}
 use Rattle.layout.specs.Layout.{bodies_of}
 use Rattle.layout.specs.Packed.{kinds_of}
 use Rattle.layout.proofs.Packed.{kinds_behind, bodies_behind}
-use Rattle.predicted.specs.Predicted.{card_of, first_card, placed_in, with_body}
+use Rattle.predicted.specs.Predicted.{card_of, first_card, kind_placed, with_body}
 use Rattle.predicted.proofs.First.{placed}
 use Rattle.problems.specs.Problems.{cards_for}
-use Rattle.problems.proofs.Widths.{stepped, one_left, all_met}
+use Rattle.problems.proofs.Widths.{one_left}
 
 -- the card of the problem at place i, as the last of the first i + 1
 last_card : (v : Version) (i : ℕ) (problems : List ℕ) → cards_for v (suc i) problems ≡ cards_for v i problems ++ (card_of (take (given_size v) (drop (given_size v * i) problems)) ∷ [])
@@ -32,52 +35,42 @@ last_card v (suc i) problems =
     let there : drop (w * i) (drop w problems) ≡ drop (w * suc i) problems = drop-drop (w * i) w problems ∙ ap (λ (n : ℕ). drop n problems) (sym next) in
     ap (λ (l : List Card). card_of (take w problems) ∷ l) (last_card v i (drop w problems) ∙ ap (λ (l : List ℕ). cards_for v i (drop w problems) ++ (card_of (take w l) ∷ [])) there)
 
-pub record Answering (v : Version) (problems kinds₀ page₀ : List ℕ) (from : ℕ) (kinds page : List ℕ) (i at end : ℕ) : Type 0 where
-  pub place : at ≡ given_size v * i
-  pub within : at ≤ length problems
+pub record Answering (v : Version) (problems kinds₀ : List ℕ) (start : Page) (kinds : List ℕ) (page : Page) (i : ℕ) : Type 0 where
   pub listed : Put kinds₀ 0 (kinds_of (cards_for v i problems)) kinds i
-  pub laid : Put page₀ from (bodies_of (cards_for v i problems)) page end
+  pub laid : page ≡ written start (bodies_of (cards_for v i problems))
 
-pub start : (v : Version) (problems kinds page : List ℕ) (from : ℕ) → from ≤ length page → Answering v problems kinds page from kinds page 0 0 from
+pub start : (v : Version) (problems kinds : List ℕ) (page : Page) → page.at ≤ length page.bytes.now → Answering v problems kinds page kinds page 0
 unfolding cards_for bodies_of
-start v problems kinds page from h = record { place = sym (mul-zero (given_size v)); within = omega arith; listed = none (omega arith); laid = none h }
+start v problems kinds page h = record { listed = none (omega arith); laid = sym (nothing page h) }
 
 -- a problem has bytes
 pub some : (v : Version) → 0 < given_size v
 some v = omega arith
 
-module _ {v : Version} {problems kinds₀ page₀ : List ℕ} {from : ℕ} {kinds page : List ℕ} {i at end : ℕ} (s : Answering v problems kinds₀ page₀ from kinds page i at end) where
-  -- while a problem is left, there is a place for its kind
-  pub room : given_size v ≤ length problems - at → length problems / given_size v ≤ length kinds₀ → i + 1 ≤ length kinds
-  room h most = le_trans (one_left (given_size v) (some v) i at (length problems) s.place s.within h) (rw (pieces.as_long s.listed) most)
+module _ (v : Version) (problems : List ℕ) (i : ℕ) (left : i < length problems / given_size v) where
+  -- while a problem is left, its bytes are there
+  room : given_size v * i + given_size v ≤ length problems
+  room = one_left (given_size v) (some v) i (length problems) left
 
-  -- and its bytes are there
-  pub whole : given_size v ≤ length problems - at → given_size v ≤ length (drop at problems)
-  whole h = omega (arith, length-drop at problems)
+  pub whole : given_size v ≤ length (drop (given_size v * i) problems)
+  whole = omega (arith, length-drop (given_size v * i) problems, room)
 
   -- its card
-  next_card : cards_for v i problems ++ (card_of (take (given_size v) (drop at problems)) ∷ []) ≡ cards_for v (i + 1) problems
-  next_card =
-      ap (λ (n : ℕ). cards_for v i problems ++ (card_of (take (given_size v) (drop n problems)) ∷ [])) s.place
-      ∙ sym (last_card v i problems)
-      ∙ ap (λ (n : ℕ). cards_for v n problems) (sym (add-one i))
+  next_card : cards_for v i problems ++ (card_of (take (given_size v) (drop (given_size v * i) problems)) ∷ []) ≡ cards_for v (i + 1) problems
+  next_card = sym (last_card v i problems) ∙ ap (λ (n : ℕ). cards_for v n problems) (sym (add-one i))
 
   -- a problem is answered
-  pub turn : (n : ℕ) {kind : Kind} {after : List ℕ} {stop : ℕ} → given_size v ≤ length problems - at → length problems / given_size v ≤ length kinds₀
-      → n ≡ kind_number kind → pass (kind, stop) ≡ placed_in page end (first_card v (drop at problems)) → after ≡ with_body page end (first_card v (drop at problems))
-      → Answering v problems kinds₀ page₀ from (set kinds i n) after (i + 1) (at + given_size v) stop
-  turn n h most k e w =
+  pub turn : {kinds₀ : List ℕ} {first : Page} {kinds : List ℕ} {page : Page} → Answering v problems kinds₀ first kinds page i
+      → (n : ℕ) {kind : Kind} {after : Page} → length problems / given_size v ≤ length kinds₀
+      → n ≡ kind_number kind → pass kind ≡ kind_placed (first_card v (drop (given_size v * i) problems)) → after ≡ with_body page (first_card v (drop (given_size v * i) problems))
+      → Answering v problems kinds₀ first (set kinds i n) after (i + 1)
+  turn {first = first} {kinds = kinds} {page = page} s n most k e w =
       let cards = cards_for v i problems in
-      let card = card_of (take (given_size v) (drop at problems)) in
-      let p = placed v (drop at problems) page end (whole h) e w in
+      let card = card_of (take (given_size v) (drop (given_size v * i) problems)) in
+      let p = placed v (drop (given_size v * i) problems) whole page e w in
       let number = ap (λ (m : ℕ). kinds_of cards ++ (m ∷ [])) (k ∙ ap kind_number p.0) in
+      let place : i + 1 ≤ length kinds = omega (arith, left, most, pieces.as_long s.listed) in
       record {
-        place = ap (λ (m : ℕ). m + given_size v) s.place ∙ sym (stepped (given_size v) i);
-        within = omega (arith, s.within);
-        listed = renamed (number ∙ sym (kinds_behind cards card) ∙ ap kinds_of next_card) (puts s.listed (at_once kinds i (n ∷ []) (room h most)));
-        laid = renamed (sym (bodies_behind cards card) ∙ ap bodies_of next_card) (puts s.laid p.1);
+        listed = renamed (number ∙ sym (kinds_behind cards card) ∙ ap kinds_of next_card) (puts s.listed (at_once kinds i (n ∷ []) place));
+        laid = rw (p.1, s.laid, two) (ap (written first) (sym (bodies_behind cards card) ∙ ap bodies_of next_card));
       }
-
-  -- after the last one
-  pub count_is : length problems - at < given_size v → i ≡ length problems / given_size v
-  count_is h = all_met (given_size v) (some v) i at (length problems) s.place s.within h

@@ -5,29 +5,36 @@
 #![tactic(auto)]
 
 ghost use Rattle.std.specs.Prelude.{◌≡◌};
-ghost use Rattle.pieces.specs.Pieces.{put_in, end_in};
-ghost use Rattle.layout.specs.Written.{said};
+ghost use Rattle.pieces.specs.Page.{written};
+ghost use Rattle.rows.specs.Rows.{checked};
+ghost use Rattle.ruling.specs.Said.{reason_number};
 ghost use Rattle.reply.specs.Reply.{refused_line, page_after, end_after};
 
-use layout::Written;
+use pieces::Page;
+use ruling::Reason;
 
-// The line of a refused deck, `deck NUMBER`, from the page's first byte on. Answers where it ends.
-pub fn refused(number: u32, page: &mut [u8]) -> usize
-    ensures value { result ≡ end_in page.old 0 (refused_line number) }
-    ensures page_after { page.new ≡ put_in page.old 0 (refused_line number) }
+// The line of a refused deck, `deck NUMBER`, in a page, as far as it goes. Its clause holds for any number.
+#[tactic(auto, using(pieces::proofs::Pages::pages))]
+pub fn refused(number: u32, page: &mut Page)
+    ensures { page.new ≡ written page.old (refused_line number) }
 {
-    let mut end = pieces::put(page, 0, b"deck");
-    end = text::count(page, end, number);
-    pieces::put(page, end, b"\n")
+    pieces::put(page, b"deck");
+    text::count(page, number);
+    pieces::put(page, b"\n");
 }
 
 // Makes the page, in which a deck was written or not, what is replied. Answers where that ends.
-pub fn reply(answer: Written, page: &mut [u8]) -> usize
-    ensures value { result ≡ end_after (said answer) page.old }
-    ensures page_after { page.new ≡ page_after (said answer) page.old }
+#[tactic(auto, using(pieces::proofs::Pages::pages))]
+pub fn reply(answer: Result<usize, Reason>, page: &mut [u8]) -> usize
+    ensures value { result ≡ end_after (checked reason_number answer) page.old }
+    ensures page_after { page.new ≡ page_after (checked reason_number answer) page.old }
 {
     match answer {
-        Written::Deck(size) => size,
-        Written::Refused(why) => refused(why.number(), page),
+        Ok(size) => size,
+        Err(why) => {
+            let mut line = Page { bytes: page, at: 0 };
+            refused(why.number(), &mut line);
+            line.at
+        }
     }
 }

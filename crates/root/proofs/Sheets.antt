@@ -6,13 +6,13 @@ use Prim.Native.Nat.{ℕ, min, ◌+◌, ◌*◌, ◌^◌, ◌<◌}
 use native.Mathlib.Omega.{arith}
 use lib.Dec.{T}
 use lib.Ieee.{Float, binary64, fits, lt, eq, of_bits}
+use Rattle.std.specs.Prelude.{Option, Some, None, Result, Ok, Err}
 use Rattle.coincidence.specs.Coincidence.{OneToOne}
 use Rattle.coincidence.proofs.Laws.{undone}
 use Rattle.exact.specs.Numbers.{nought, is_finite, Number, steps}
 use Rattle.exact.proofs.Basics.{passed}
 use Rattle.root.specs.declared.Sheet.{Sheet}
-use Rattle.root.specs.declared.Working.{Working}
-use Rattle.root.specs.declared.Working.TheVariants as working
+use Rattle.root.specs.declared.Reason.{Reason}
 use Rattle.root.specs.Said as said
 use Rattle.root.specs.Form.{InForm}
 use Rattle.root.specs.Whole.{IsWholeRoot}
@@ -120,15 +120,15 @@ has_each x m n s is =
 
 -- ---- no two answers show the same: what they show can be undone
 
-abbrev unshown : Shown → Working
-unshown (sheet s) = working.Sheet s
-unshown zero_itself = working.Zero
-unshown (refused k) = working.Refused (reason_from k)
+abbrev unshown : Shown → Result (Option Sheet) Reason
+unshown (sheet s) = Ok (Some s)
+unshown zero_itself = Ok None
+unshown (refused k) = Err (reason_from k)
 
-unshown_is : (a : Working) → unshown (shown a) ≡ a
-unshown_is (working.Sheet s) = refl
-unshown_is working.Zero = refl
-unshown_is (working.Refused why) = ap working.Refused (reason_is why)
+unshown_is : (a : Result (Option Sheet) Reason) → unshown (shown a) ≡ a
+unshown_is (Ok (Some s)) = refl
+unshown_is (Ok None) = refl
+unshown_is (Err why) = ap Err (reason_is why)
 
 pub shown_once : OneToOne shown
 shown_once = undone shown unshown unshown_is

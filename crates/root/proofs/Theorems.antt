@@ -10,6 +10,7 @@ use native.Mathlib.Omega.{arith}
 use lib.Dec.{T, eqb}
 use lib.Ieee.{Float, nan, inf, fin, binary64, fits, lt, eq, of_bits}
 use lib.Ieee.Bits.{is_true, is_false}
+use Rattle.std.specs.Prelude.{Result, Ok, Err}
 use Rattle.coincidence.specs.Coincidence.{OneToOne}
 use Rattle.coincidence.proofs.Laws.{undone}
 use Rattle.exact.specs.Numbers.{nought, is_finite, is_minus, steps}
@@ -17,8 +18,6 @@ use Rattle.exact.proofs.Basics.{passed, failed}
 use Rattle.exact.proofs.Steps.{same_number}
 use Rattle.exact.proofs.Order.{plus_lt, above_alone, equal_alone, lt_of_neither}
 use Rattle.exact.proofs.Zero.{nought_number, positive_is}
-use Rattle.root.specs.declared.Answer.{Answer}
-use Rattle.root.specs.declared.Answer.TheVariants.{Root, Refused}
 use Rattle.root.specs.declared.Reason.{Reason}
 use Rattle.root.specs.declared.Reason.TheVariants.{NotFinite, BelowZero}
 use Rattle.root.specs.Said.{Said, root, refused, reason_number, said}
@@ -100,13 +99,13 @@ pub reason_is : (why : Reason) → reason_from (reason_number why) ≡ why
 reason_is NotFinite = refl
 reason_is BelowZero = refl
 
-abbrev unsaid : Said → Answer
-unsaid (root x) = Root x
-unsaid (refused k) = Refused (reason_from k)
+abbrev unsaid : Said → Result Float Reason
+unsaid (root x) = Ok x
+unsaid (refused k) = Err (reason_from k)
 
-unsaid_is : (a : Answer) → unsaid (said a) ≡ a
-unsaid_is (Root x) = refl
-unsaid_is (Refused why) = ap Refused (reason_is why)
+unsaid_is : (a : Result Float Reason) → unsaid (said a) ≡ a
+unsaid_is (Ok x) = refl
+unsaid_is (Err why) = ap Err (reason_is why)
 
 pub said_once : OneToOne said
 said_once = undone said unsaid unsaid_is

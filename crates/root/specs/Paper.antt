@@ -1,11 +1,10 @@
 -- RULES, The root on paper. Definitions only.
-use Rattle.std.specs.Prelude.{◌≡◌, cond, ℕ, zero, suc, min, ◌+◌, ◌-◌, ◌*◌, ◌/◌, ◌%◌, ◌^◌, ◌≤◌, ◌<◌, leb, Float}
+use Rattle.std.specs.Prelude.{◌≡◌, cond, ℕ, zero, suc, min, ◌+◌, ◌-◌, ◌*◌, ◌/◌, ◌%◌, ◌^◌, ◌≤◌, ◌<◌, leb, Float, Option, Some, None, Result, Ok, Err}
 use Rattle.std.specs.Float.{binary64}
 use Rattle.std.specs.Float.Ieee.{of_bits, size, eq}
 use Rattle.exact.specs.Numbers.{nought, steps}
 use Rattle.root.specs.declared.Sheet.{Sheet}
-use Rattle.root.specs.declared.Working.{Working}
-use Rattle.root.specs.declared.Working.TheVariants as working
+use Rattle.root.specs.declared.Reason.{Reason}
 use Rattle.root.specs.Said as said
 use Rattle.root.specs.Root.{root_of}
 
@@ -73,10 +72,10 @@ pub data Shown : Type 0 where
   zero_itself : Shown
   refused : ℕ → Shown
 
-abbrev pub shown : Working → Shown
-shown (working.Sheet s) = sheet s
-shown working.Zero = zero_itself
-shown (working.Refused why) = refused (said.reason_number why)
+abbrev pub shown : Result (Option Sheet) Reason → Shown
+shown (Ok (Some s)) = sheet s
+shown (Ok None) = zero_itself
+shown (Err why) = refused (said.reason_number why)
 
 abbrev pub shown_for : said.Said → Float → ℕ → Shown
 shown_for (said.root r) x n = cond (eq x nought) zero_itself (sheet (after_turns (whole_of (steps binary64 x)) (min n 54)))

@@ -1,9 +1,7 @@
 -- What an answer of the root says, in the numbers and values of RULES, Refusal numbers. Definitions only.
-use Rattle.std.specs.Prelude.{ℕ, Float}
+use Rattle.std.specs.Prelude.{ℕ, Float, Result, Ok, Err}
 use Rattle.root.specs.declared.Reason.{Reason}
 use Rattle.root.specs.declared.Reason.TheVariants.{NotFinite, BelowZero}
-use Rattle.root.specs.declared.Answer.{Answer}
-use Rattle.root.specs.declared.Answer.TheVariants.{Root, Refused}
 
 -- 1 for NaN and the infinities; 13 for a finite number below zero
 abbrev pub reason_number : Reason → ℕ
@@ -15,6 +13,6 @@ pub data Said : Type 0 where
   root : Float → Said
   refused : ℕ → Said
 
-abbrev pub said : Answer → Said
-said (Root x) = root x
-said (Refused why) = refused (reason_number why)
+abbrev pub said : Result Float Reason → Said
+said (Ok x) = root x
+said (Err why) = refused (reason_number why)

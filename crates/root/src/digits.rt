@@ -43,14 +43,7 @@ pub(crate) fn sheet_of(w: u64, turns: u64) -> Sheet
     requires { (0 < w) × (w < 0x7ff0_0000_0000_0000) }
     ensures { result ≡ after_turns (whole_of (steps binary64 (of_bits binary64 w))) (min turns 54) }
 {
-    worked(form_of(w).v, left_after(turns))
-}
-
-// How many pairs are still to come after so many turns.
-fn left_after(turns: u64) -> u64
-    ensures { result ≡ 54 - turns }
-{
-    if turns < TURNS { TURNS - turns } else { 0 }
+    worked(form_of(w).v, TURNS.saturating_sub(turns))
 }
 
 // ---- Before the turns
@@ -106,6 +99,7 @@ fn worked(v: u64, left: u64) -> Sheet
         pairs: v,
         left: TURNS,
     };
+    // no `for`: the sheet itself counts the pairs to come
     while left < sheet.left {
         sheet = turn(sheet);
     }
@@ -135,7 +129,7 @@ fn turn(sheet: Sheet) -> Sheet
 fn settled(trial: u64, standing: u64) -> u64
     ensures { result ≡ digit_for trial standing }
 {
-    if trial <= standing { 1 } else { 0 }
+    u64::from(trial <= standing)
 }
 
 // ---- After the turns

@@ -22,6 +22,7 @@ pub enum Reason {
 
 impl Reason {
     // Its number in the rules.
+    // No `From`: docs/STATEMENTS.md has the clause, and that it has one result (docs/DECISIONS.md 149).
     pub fn number(self) -> u32
         ensures { result ≡ reason_number self }
     {
@@ -30,12 +31,6 @@ impl Reason {
             Reason::BelowZero => 13,
         }
     }
-}
-
-#[derive(Clone, Copy)]
-pub enum Answer {
-    Root(f64),
-    Refused(Reason),
 }
 
 // The turns of a root: as many as it has digits, one more than are kept.
@@ -52,57 +47,40 @@ pub struct Sheet {
     pub left: u64,
 }
 
-// The sheet of a number; or the number is zero, which is its own root, or is refused.
-#[derive(Clone, Copy)]
-pub enum Working {
-    Sheet(Sheet),
-    Zero,
-    Refused(Reason),
-}
-
 // The binary64 number nearest the exact root of x, and -0 for -0. A NaN, an infinity and a number
 // below zero are refused.
-pub fn root(x: f64) -> Answer
+pub fn root(x: f64) -> Result<f64, Reason>
     ensures { said result ≡ root_of x }
 {
-    match tested(x) {
-        Case::Above(w) => Answer::Root(f64::from_bits(digits::root_word(w))),
-        Case::Zero => Answer::Root(x),
-        Case::Refused(why) => Answer::Refused(why),
+    match tested(x)? {
+        Some(w) => Ok(f64::from_bits(digits::root_word(w))),
+        None => Ok(x),
     }
 }
 
-// The sheet of x after so many turns; after more than 54 the last one. What is refused as a root is
-// refused here.
-pub fn sheet_after(x: f64, turns: u64) -> Working
+// The sheet of x after so many turns; after more than 54 the last one. Zero, which is its own root, has
+// none. What is refused as a root is refused here.
+pub fn sheet_after(x: f64, turns: u64) -> Result<Option<Sheet>, Reason>
     ensures { shown result ≡ sheet_of x turns }
 {
-    match tested(x) {
-        Case::Above(w) => Working::Sheet(digits::sheet_of(w, turns)),
-        Case::Zero => Working::Zero,
-        Case::Refused(why) => Working::Refused(why),
+    match tested(x)? {
+        Some(w) => Ok(Some(digits::sheet_of(w, turns))),
+        None => Ok(None),
     }
 }
 
-// A number above zero, by its word; zero, of either sign; or why the number has no root.
-#[derive(Clone, Copy)]
-enum Case {
-    Above(u64),
-    Zero,
-    Refused(Reason),
-}
-
-fn tested(x: f64) -> Case
+// The word of a number above zero; none for zero, of either sign; or why the number has no root.
+fn tested(x: f64) -> Result<Option<u64>, Reason>
     ensures { Tested x result }
 {
     if !exact::finite(x) {
-        return Case::Refused(Reason::NotFinite);
+        return Err(Reason::NotFinite);
     }
     if x < 0.0 {
-        return Case::Refused(Reason::BelowZero);
+        return Err(Reason::BelowZero);
     }
     if x == 0.0 {
-        return Case::Zero;
+        return Ok(None);
     }
-    Case::Above(f64::to_bits(x))
+    Ok(Some(f64::to_bits(x)))
 }

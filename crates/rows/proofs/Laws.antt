@@ -1,10 +1,13 @@
 -- Laws of rows of tests: what a row that passes says of each of its tests, and what each number has with which one can refuse.
-use mathlib.Core.Path.{◌≡◌, refl, subst}
+use mathlib.Core.Path.{◌≡◌, refl, subst, ap}
 use mathlib.Core.Bool.{Bool, true, false, cond, true≢false, ◌&&◌}
 use Prim.Native.Nat.{ℕ, ◌<◌}
 use lib.Dec.{T, ltb, ltb→lt}
 use lib.Ieee.Fits.{and_l, and_r}
-use Rattle.rows.specs.Rows.{Checked, pass, refuse, must, renumbered, onward}
+use Rattle.std.specs.Prelude.{Option, Some, None, Result, Ok, Err}
+use Rattle.coincidence.specs.Coincidence.{OneToOne}
+use Rattle.coincidence.proofs.Laws.{undone}
+use Rattle.rows.specs.Rows.{Checked, pass, refuse, must, renumbered, onward, checked, stated}
 
 pub pass_once : {A : Type 0} {x y : A} → ◌≡◌ {A = Checked A} (pass x) (pass y) → x ≡ y
 pass_once e = cc
@@ -42,6 +45,21 @@ row_refused (refuse n) value e = cc
 abbrev pub taken_back : {A B : Type 0} → (B → A) → (ℕ → A) → Checked B → A
 taken_back passed failed (pass x) = passed x
 taken_back passed failed (refuse k) = failed k
+
+-- so an answer of the code says one thing, where its reasons have one number each, and where there is one refusal alone
+pub checked_once : {A E : Type 0} (number : E → ℕ) (back : ℕ → E) → ((why : E) → back (number why) ≡ why) → OneToOne (checked {A = A} number)
+checked_once {A} {E} number back is = undone (checked number) (taken_back Ok (λ k. Err (back k))) again
+  where
+    again : (a : Result A E) → taken_back Ok (λ k. Err (back k)) (checked number a) ≡ a
+    again (Ok x) = refl
+    again (Err why) = ap Err (is why)
+
+pub stated_once : {A : Type 0} (k : ℕ) → OneToOne (stated {A = A} k)
+stated_once {A} k = undone (stated k) (taken_back Some (λ j. None)) again
+  where
+    again : (a : Option A) → taken_back Some (λ j. None) (stated k a) ≡ a
+    again (Some x) = refl
+    again None = refl
 
 -- a row of tests that passes, or refuses with a number that has P
 pub data Refuses {A : Type 0} (P : ℕ → Type 0) : Checked A → Type 0 where

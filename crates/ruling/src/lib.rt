@@ -18,7 +18,8 @@ pub enum Fault {
     NumberDiffers,
 }
 
-// A solved card's verdict 0 comes with its residual, in seconds; a refused card has none.
+// A solved card's verdict 0 comes with its residual, in seconds; a refused card has none. A number rejects, and
+// no enum: it may be a fault's, a prediction's or a transfer's (docs/DECISIONS.md 29).
 #[derive(Clone, Copy)]
 pub enum Verdict {
     Solved(f64),
@@ -28,6 +29,7 @@ pub enum Verdict {
 
 impl Fault {
     // Its number in the rules.
+    // No `From`: docs/STATEMENTS.md has the clause, and that it has one result (docs/DECISIONS.md 149).
     pub fn number(self) -> u32
         ensures { result ≡ fault_number self }
     {
@@ -42,7 +44,7 @@ impl Fault {
 }
 
 impl Verdict {
-    // The number for the verdict list: 0 for a card that is accepted.
+    // The number for the verdict list: 0 for a card that is accepted. No `From`, as above.
     pub fn number(self) -> u32
         ensures { result ≡ number_in (said self) }
     {
@@ -76,6 +78,7 @@ pub enum Reason {
 
 impl Reason {
     // Its number in the rules.
+    // No `From`: docs/STATEMENTS.md has the clause, and that it has one result (docs/DECISIONS.md 149).
     pub fn number(self) -> u32
         ensures { result ≡ reason_number self }
     {

@@ -1,4 +1,4 @@
--- One turn of the search, a law for each way that it goes: what a caller's loop does in a turn is what the definition does. What such a loop
+-- One turn of the search, a law for each way that it goes: what the loop of `searched` does in a turn is what the definition does. What the loop
 -- keeps is `Left`: the hunt that is still to be made ends as the whole search does.
 use mathlib.Core.Path.{◌≡◌, refl, sym, ap, ◌∙◌}
 use mathlib.Core.Bool.{true, false}
@@ -41,12 +41,12 @@ module _ (time : Float → Float) (t : Float) where
 
 -- after `count` guesses of a search from the bracket `start`, with the bracket b and the next guess x
 pub record Left (time : Float → Float) (t : Float) (limit : ℕ) (start b : Bracket) (x : Float) (count : ℕ) : Type 0 where
-  pub more : count < limit
+  pub more : count ≤ limit - 1
   pub ends : hunt time t (limit - 1 - count) count b x ≡ search_of time t limit start
 
-pub begins : {time : Float → Float} {t : Float} {limit : ℕ} {start : Bracket} {x : Float} → 1 ≤ limit → x ≡ first_guess start t → Left time t limit start start x 0
+pub begins : {time : Float → Float} {t : Float} {limit : ℕ} {start : Bracket} {x : Float} → x ≡ first_guess start t → Left time t limit start start x 0
 unfolding search_of
-begins {limit = limit} l e = let whole : limit - 1 - 0 ≡ limit - 1 = omega arith in record { more = omega (arith, l); ends = rw (e, whole) refl }
+begins {limit = limit} e = let whole : limit - 1 - 0 ≡ limit - 1 = omega arith in record { more = omega arith; ends = rw (e, whole) refl }
 
 -- the guess x has the time T. A law for each way out of the loop, and one for the way round it
 module _ {time : Float → Float} {t : Float} {limit : ℕ} {start b : Bracket} {x : Float} {count : ℕ} (l : Left time t limit start b x count) {T : Float} (e : T ≡ time x) where
@@ -63,7 +63,7 @@ module _ {time : Float → Float} {t : Float} {limit : ℕ} {start b : Bracket} 
     next_is : {y : Try} → y ≡ next_guess b (record { x = x; time = T }) t → next_guess b (point_at time x) t ≡ y
     next_is y = sym (y ∙ ap (λ (T : Float). next_guess b (record { x = x; time = T }) t) e)
 
-    pub ends_spent : count + 1 ≡ limit → spent new (count + 1) ≡ search_of time t limit start
+    pub ends_spent : limit ≤ count + 1 → spent new (count + 1) ≡ search_of time t limit start
     ends_spent z =
         ap (λ (b : Bracket). spent b (count + 1)) narrowed_is
         ∙ sym (turn_spent time t count b x (rw (← e) f) (rw (← e) n) (limit - 1 - count) (omega (arith, z)))
@@ -78,4 +78,4 @@ module _ {time : Float → Float} {t : Float} {limit : ℕ} {start b : Bracket} 
     pub goes_on : count + 1 < limit → {y : Float} → guess y ≡ next_guess b (record { x = x; time = T }) t → Left time t limit start new y (count + 1)
     goes_on m {y} g =
         let one_less : limit - 1 - (count + 1) ≡ limit - 1 - count - 1 = omega arith in
-        record { more = m; ends = rw (one_less, narrowed_is) (sym (turn_again time t count b x (rw (← e) f) (rw (← e) n) (limit - 1 - count) y (omega (arith, m)) (next_is g)) ∙ l.ends) }
+        record { more = omega (arith, m); ends = rw (one_less, narrowed_is) (sym (turn_again time t count b x (rw (← e) f) (rw (← e) n) (limit - 1 - count) y (omega (arith, m)) (next_is g)) ∙ l.ends) }

@@ -1,7 +1,9 @@
 -- The answer of a search, whatever is searched for and made of it: RULES, The search, and Refusal numbers, notes b and c. Definitions only.
-use Rattle.std.specs.Prelude.{ℕ, Float}
+use Rattle.std.specs.Prelude.{ℕ, Float, Option, Some, None, Result, Ok, Err}
 use Rattle.rows.specs.Rows.{Checked, pass, refuse}
 use Rattle.search.specs.declared.Bracket.{Bracket}
+use Rattle.search.specs.declared.Solution.{Solution}
+use Rattle.search.specs.declared.Refusal.{Refusal}
 use Rattle.search.specs.Said as end
 use Rattle.search.specs.Search.{search_of}
 
@@ -11,6 +13,16 @@ pub data Answer (A : Type 0) : Type 0 where
   solved : Float → ℕ → A → Answer A
   refused : ℕ → ℕ → Answer A
   refused_with_bracket : ℕ → ℕ → Float → Float → Answer A
+
+-- a refusal, which names the bracket's ends where it has them
+abbrev pub refused_with : {A : Type 0} → (k n : ℕ) → Option (Float × Float) → Answer A
+refused_with k n None = refused k n
+refused_with k n (Some ends) = refused_with_bracket k n ends.0 ends.1
+
+-- what an outcome says, where its reasons have these numbers
+abbrev pub answered : {A W : Type 0} → (number : W → ℕ) → Result (Solution A) (Refusal W) → Answer A
+answered number (Ok s) = solved s.x s.count s.found
+answered number (Err r) = refused_with (number r.why) r.count r.ends
 
 -- a solution, where what is found at x is allowed; else its refusal
 abbrev pub with_found : {A : Type 0} → (x : Float) (n : ℕ) → Checked A → Answer A

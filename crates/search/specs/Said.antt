@@ -1,8 +1,6 @@
 -- What the answers of the search say. Definitions only.
-use Rattle.std.specs.Prelude.{ℕ, Float}
+use Rattle.std.specs.Prelude.{ℕ, Float, Option, Some, None}
 use Rattle.search.specs.declared.Bracket.{Bracket}
-use Rattle.search.specs.declared.Step.{Step}
-use Rattle.search.specs.declared.Step.TheVariants as step
 use Rattle.search.specs.declared.Found.{Found}
 use Rattle.search.specs.declared.Found.TheVariants as found
 
@@ -11,9 +9,9 @@ pub data Try : Type 0 where
   guess : Float → Try
   no_guess : Try
 
-abbrev pub said : Step → Try
-said (step.Guess x) = guess x
-said step.Closed = no_guess
+abbrev pub said : Option Float → Try
+said (Some x) = guess x
+said None = no_guess
 
 -- how a search ends: at a guess near the wanted time, or with the bracket for refusal 9 (closed) or 10 (spent), or with a time that is not
 -- finite, refusal 6 (lost); each with the count of guesses

@@ -1,6 +1,6 @@
 -- Laws of the lines of a root's turns, and how long they can be.
 use mathlib.Core.Path.{◌≡◌, refl, ap, ap₂, ◌∙◌}
-use mathlib.Core.List.{List, ◌++◌, append-nil}
+use mathlib.Core.List.{◌++◌, append-nil}
 use Prim.Native.Nat.{ℕ, zero, suc, ◌+◌, ◌*◌, ◌%◌, ◌≤◌}
 use native.Mathlib.Nat.{le_trans}
 use native.Mathlib.Numerals.{add-one}
@@ -8,8 +8,6 @@ use native.Mathlib.Omega.{arith}
 use lib.Ieee.{Float, binary64}
 use lib.ListN.{length, length-append}
 use Rattle.exact.specs.Numbers.{steps}
-use Rattle.pieces.specs.Pieces.{Put}
-use Rattle.pieces.proofs.Puts.{puts, renamed, none}
 use Rattle.text.proofs.Length.{length_count, length_whole, length_number}
 use Rattle.root.specs.declared.Sheet.{Sheet}
 use Rattle.root.specs.Said as said
@@ -17,22 +15,17 @@ use Rattle.root.specs.Root.{root_of}
 use Rattle.root.specs.Paper.{whole_of, pair_of, trial_of, after_turns, rounded_of, Shown, sheet, zero_itself, refused, sheet_of}
 use Rattle.sheets.specs.Sheets.{refusal_line, root_line, turn_line, turn_lines, rounded_line, leading_up, working_lines, most_working}
 
--- no turn, and one more
-pub no_turns : (v : ℕ) {at : ℕ} {out : List ℕ} → at ≤ length out → Put out at (turn_lines v 0) out at
+-- one more turn
+pub one_more_turn : (v n : ℕ) {s r : Sheet} → s ≡ after_turns v n → r ≡ after_turns v (n + 1) → turn_lines v n ++ turn_line (n + 1) s r ≡ turn_lines v (n + 1)
 unfolding turn_lines
-no_turns v h = none h
-
-pub one_more_turn : (v n : ℕ) {at end next : ℕ} {out₀ out after : List ℕ} {s r : Sheet} → s ≡ after_turns v n → r ≡ after_turns v (n + 1) → Put out₀ at (turn_lines v n) out end → Put out end (turn_line (n + 1) s r) after next
-    → Put out₀ at (turn_lines v (n + 1)) after next
-unfolding turn_lines
-one_more_turn v n {s = s} {r = r} e f p q = renamed (ap₂ (λ (a b : Sheet). turn_lines v n ++ turn_line (n + 1) a b) e f ∙ more (n + 1) (add-one n)) (puts p q)
+one_more_turn v n e f = ap₂ (λ (a b : Sheet). turn_lines v n ++ turn_line (n + 1) a b) e f ∙ more (n + 1) (add-one n)
   where
     more : (k : ℕ) → k ≡ suc n → turn_lines v n ++ turn_line k (after_turns v n) (after_turns v k) ≡ turn_lines v k
     more k e = rw e refl
 
 -- the last turn
-pub all_turns : (v n : ℕ) {at end : ℕ} {before after : List ℕ} → n ≤ 54 → 54 ≤ n → Put before at (turn_lines v n) after end → Put before at (turn_lines v 54) after end
-all_turns v n h k p = let e : n ≡ 54 = omega arith in renamed (ap (turn_lines v) e) p
+pub all_turns : (v n : ℕ) → n ≤ 54 → 54 ≤ n → turn_lines v n ≡ turn_lines v 54
+all_turns v n h k = let e : n ≡ 54 = omega arith in ap (turn_lines v) e
 
 -- the lines of a number, from what its last sheet and its root are
 pub working_is : (x : Float) {a : Shown} {s : said.Said} → a ≡ sheet_of x 54 → s ≡ root_of x → leading_up (whole_of (steps binary64 x)) a ++ root_line s ≡ working_lines x

@@ -7,78 +7,74 @@
 ghost use Rattle.std.specs.Prelude.{◌≡◌, ◌^◌, ◌≤◌, ◌<◌};
 ghost use Rattle.std.specs.Float.{binary64};
 ghost use Rattle.exact.specs.Numbers.{steps};
-ghost use Rattle.pieces.specs.Pieces.{put_in, end_in, Put};
+ghost use Rattle.pieces.specs.Page.{written};
 ghost use Rattle.root.specs.Said.{said};
 ghost use Rattle.root.specs.Paper.{whole_of, after_turns, shown, sheet_of};
 ghost use Rattle.sheets.specs.Sheets.{Worked, refusal_line, root_line, turn_line, turn_lines, rounded_line, leading_up, working_lines};
 
-use root::{Answer, Sheet, Working};
+use pieces::Page;
+use root::{Reason, Sheet};
 
 // The weight of the next pair among the pairs to come.
 const PAIR: u64 = 0x10_0000_0000_0000;
 
-// `root WORD` or `refused NUMBER`, in out from index at on, as far as out goes. Answers where it ends.
-pub fn put_root(answer: Answer, out: &mut [u8], at: usize) -> usize
-    ensures value { result ≡ end_in out.old at (root_line (said answer)) }
-    ensures out_after { out.new ≡ put_in out.old at (root_line (said answer)) }
+// `root WORD` or `refused NUMBER`, in a page, as far as it goes.
+#[tactic(auto, using(pieces::proofs::Pages::pages))]
+pub fn put_root(answer: Result<f64, Reason>, page: &mut Page)
+    ensures { page.new ≡ written page.old (root_line (said answer)) }
 {
     match answer {
-        Answer::Root(x) => {
-            let mut end = pieces::put(out, at, b"root");
-            end = text::number(out, end, x);
-            pieces::put(out, end, b"\n")
+        Ok(x) => {
+            pieces::put(page, b"root");
+            text::number(page, x);
+            pieces::put(page, b"\n");
         }
-        Answer::Refused(why) => put_refusal(why.number(), out, at),
+        Err(why) => put_refusal(why.number(), page),
     }
 }
 
-// `refused NUMBER`, likewise.
-pub fn put_refusal(number: u32, out: &mut [u8], at: usize) -> usize
-    ensures value { result ≡ end_in out.old at (refusal_line number) }
-    ensures out_after { out.new ≡ put_in out.old at (refusal_line number) }
+// `refused NUMBER`, likewise. A number, and no enum: it may be a root's or that of the series.
+#[tactic(auto, using(pieces::proofs::Pages::pages))]
+pub fn put_refusal(number: u32, page: &mut Page)
+    ensures { page.new ≡ written page.old (refusal_line number) }
 {
-    let mut end = pieces::put(out, at, b"refused");
-    end = text::count(out, end, number);
-    pieces::put(out, end, b"\n")
+    pieces::put(page, b"refused");
+    text::count(page, number);
+    pieces::put(page, b"\n");
 }
 
 // The turns of x, how the last digit rounds, and the line of the root, likewise; for zero, and for
 // what is refused, the line of the root alone.
-pub fn put_working(x: f64, out: &mut [u8], at: usize) -> usize
-    ensures value { result ≡ end_in out.old at (working_lines x) }
-    ensures out_after { out.new ≡ put_in out.old at (working_lines x) }
+pub fn put_working(x: f64, page: &mut Page)
+    ensures { page.new ≡ written page.old (working_lines x) }
 {
-    let end = leading_up(x, root::sheet_after(x, root::TURNS), out, at);
-    put_root(root::root(x), out, end)
+    leading_up(x, root::sheet_after(x, root::TURNS), page);
+    put_root(root::root(x), page);
 }
 
 // What stands before the root's line: where x has a last sheet, the turns and the rounding.
-fn leading_up(x: f64, last: Working, out: &mut [u8], at: usize) -> usize
+fn leading_up(x: f64, last: Result<Option<Sheet>, Reason>, page: &mut Page)
     requires { shown last ≡ sheet_of x 54 }
-    ensures { Put out.old at (leading_up (whole_of (steps binary64 x)) (shown last)) out.new result }
+    ensures { page.new ≡ written page.old (leading_up (whole_of (steps binary64 x)) (shown last)) }
 {
     match last {
-        Working::Sheet(sheet) => {
-            let end = turns(x, out, at);
-            rounded(sheet, out, end)
+        Ok(Some(sheet)) => {
+            turns(x, page);
+            rounded(sheet, page);
         }
-        Working::Zero => pieces::put(out, at, b""),
-        Working::Refused(_) => pieces::put(out, at, b""),
+        Ok(None) | Err(_) => pieces::put(page, b""),
     }
 }
 
 // A line for each turn. Each sheet is worked from the first turn on, which is quick enough for a page.
-fn turns(x: f64, out: &mut [u8], at: usize) -> usize
+fn turns(x: f64, page: &mut Page)
     requires { Worked x }
-    ensures { Put out.old at (turn_lines (whole_of (steps binary64 x)) 54) out.new result }
+    ensures { page.new ≡ written page.old (turn_lines (whole_of (steps binary64 x)) 54) }
 {
-    let mut end = pieces::put(out, at, b"");
-    let mut n = 0u64;
-    while n < root::TURNS {
-        end = turn(n + 1, sheet_of(x, n), sheet_of(x, n + 1), out, end);
-        n += 1;
+    pieces::put(page, b"");
+    for n in 0..root::TURNS {
+        turn(n + 1, sheet_of(x, n), sheet_of(x, n + 1), page);
     }
-    end
 }
 
 // The sheet of x after n turns. The other cases do not come.
@@ -86,43 +82,35 @@ fn sheet_of(x: f64, n: u64) -> Sheet
     requires { (n ≤ 54) × Worked x }
     ensures { (result.digits < 2 ^ 54) × (result ≡ after_turns (whole_of (steps binary64 x)) n) }
 {
-    match root::sheet_after(x, n) {
-        Working::Sheet(sheet) => sheet,
-        Working::Zero => nothing(),
-        Working::Refused(_) => nothing(),
-    }
-}
-
-fn nothing() -> Sheet {
-    Sheet {
-        digits: 0,
-        remainder: 0,
-        pairs: 0,
-        left: 0,
-    }
+    let Ok(Some(sheet)) = root::sheet_after(x, n) else {
+        unreachable!()
+    };
+    sheet
 }
 
 // `turn N PAIR TRIAL DIGIT REMAINDER`.
-fn turn(n: u64, before: Sheet, after: Sheet, out: &mut [u8], at: usize) -> usize
+#[tactic(auto, using(pieces::proofs::Pages::pages))]
+fn turn(n: u64, before: Sheet, after: Sheet, page: &mut Page)
     requires { before.digits < 2 ^ 54 }
-    ensures { Put out.old at (turn_line n before after) out.new result }
+    ensures { page.new ≡ written page.old (turn_line n before after) }
 {
-    let mut end = pieces::put(out, at, b"turn");
-    end = text::whole(out, end, n);
-    end = text::whole(out, end, before.pairs / PAIR);
-    end = text::whole(out, end, before.digits * 4 + 1);
-    end = text::whole(out, end, after.digits % 2);
-    end = text::whole(out, end, after.remainder);
-    pieces::put(out, end, b"\n")
+    pieces::put(page, b"turn");
+    text::whole(page, n);
+    text::whole(page, before.pairs / PAIR);
+    text::whole(page, before.digits * 4 + 1);
+    text::whole(page, after.digits % 2);
+    text::whole(page, after.remainder);
+    pieces::put(page, b"\n");
 }
 
 // `rounded DIGITS ROUNDED`.
-fn rounded(last: Sheet, out: &mut [u8], at: usize) -> usize
+#[tactic(auto, using(pieces::proofs::Pages::pages))]
+fn rounded(last: Sheet, page: &mut Page)
     requires { last.digits < 2 ^ 54 }
-    ensures { Put out.old at (rounded_line last) out.new result }
+    ensures { page.new ≡ written page.old (rounded_line last) }
 {
-    let mut end = pieces::put(out, at, b"rounded");
-    end = text::whole(out, end, last.digits);
-    end = text::whole(out, end, (last.digits + 1) / 2);
-    pieces::put(out, end, b"\n")
+    pieces::put(page, b"rounded");
+    text::whole(page, last.digits);
+    text::whole(page, (last.digits + 1) / 2);
+    pieces::put(page, b"\n");
 }

@@ -8,10 +8,10 @@
 // of its places still have the value 97 that all had.
 #![tactic(auto)]
 
-ghost use Rattle.std.specs.Prelude.{◌≤◌};
+ghost use Rattle.std.specs.Prelude.{◌≤◌, length};
 
-use apart::Apart;
-use layout::Written;
+use pieces::Page;
+use ruling::Reason;
 use std::io::{Read, Write};
 
 // The bytes of which a part is lent.
@@ -34,7 +34,7 @@ fn try_plain<R: Read, W: Write>(input: &mut R, output: &mut W) {
     write_in(output, 1, 0, &space[..got], 150);
     write_in(output, 2, 0, &space[..got], 162);
     let mut deck = [0u8; 148];
-    problems::write(1, 0, &space[..got], &mut deck);
+    let _ = problems::write(1, 0, &space[..got], &mut deck);
     take_in(output, &deck, 0, 124);
     take_in(output, &deck, 1, 123);
     take_in(output, &deck, 1, 124);
@@ -52,7 +52,7 @@ fn try_tagged<R: Read, W: Write>(input: &mut R, output: &mut W) {
     write_in(output, 1, 1, &space[..got], 162);
     write_in(output, 3, 1, &space[..got], 162);
     let mut deck = [0u8; 160];
-    problems::write(2, 1, &space[..got], &mut deck);
+    let _ = problems::write(2, 1, &space[..got], &mut deck);
     take_in(output, &deck, 1, 135);
     take_in(output, &deck, 1, 136);
     copy_in(output, &deck, 159);
@@ -65,7 +65,7 @@ fn write_in<W: Write>(output: &mut W, number: u32, form: u32, problem: &[u8], ro
 {
     let mut buffer = [97u8; SIZE];
     let answer = problems::write(number, form, problem, &mut buffer[..room]);
-    tell(output, b"write", refusal(answer), kept(&buffer));
+    tell(output, b"write", refusal(answer), kept(&buffer, 97));
 }
 
 // Takes the deck apart, with so many places for kinds, and room for fields.
@@ -74,19 +74,15 @@ fn take_in<W: Write>(output: &mut W, deck: &[u8], places: usize, room: usize)
 {
     let mut kinds = [97u32; 2];
     let mut fields = [97u8; SIZE];
-    let number = match apart::take(deck, &mut kinds[..places], &mut fields[..room]) {
-        Apart::Cards(_, _, _) => 0,
-        Apart::Refused(why) => why.number(),
-    };
-    let left = std::num::wrapping_add_u32(same(kinds[0]), same(kinds[1]));
-    tell(output, b"take kinds", number, left);
-    tell(output, b"take fields", number, kept(&fields));
+    let number = refusal(apart::take(deck, &mut kinds[..places], &mut fields[..room]));
+    tell(output, b"take kinds", number, kept(&kinds, 97));
+    tell(output, b"take fields", number, kept(&fields, 97));
 }
 
 // Writes the fields of the deck's card as one of another kind, into too little room, and as too many.
 fn finish_all<W: Write>(output: &mut W, deck: &[u8]) {
     let mut fields = [0u8; 124];
-    apart::take(deck, &mut [0u32; 1], &mut fields);
+    let _ = apart::take(deck, &mut [0u32; 1], &mut fields);
     finish_in(output, 1, &[0u32; 1], &fields, 150);
     finish_in(output, 1, &[1u32; 1], &fields, 150);
     finish_in(output, 1, &[2u32; 1], &fields, 150);
@@ -102,7 +98,7 @@ fn finish_in<W: Write>(output: &mut W, number: u32, kinds: &[u32], fields: &[u8]
 {
     let mut buffer = [97u8; SIZE];
     let answer = writer::write(number, 0, kinds, fields, &mut buffer[..room]);
-    tell(output, b"finish", refusal(answer), kept(&buffer));
+    tell(output, b"finish", refusal(answer), kept(&buffer, 97));
 }
 
 // Copies the deck.
@@ -111,41 +107,37 @@ fn copy_in<W: Write>(output: &mut W, deck: &[u8], room: usize)
 {
     let mut buffer = [97u8; SIZE];
     let answer = copier::copy(deck, &mut buffer[..room]);
-    tell(output, b"copy", refusal(answer), kept(&buffer));
+    tell(output, b"copy", refusal(answer), kept(&buffer, 97));
 }
 
-fn refusal(answer: Written) -> u32 {
+// The number of a refusal, 0 where there is none.
+fn refusal<A: Copy>(answer: Result<A, Reason>) -> u32 {
     match answer {
-        Written::Deck(_) => 0,
-        Written::Refused(why) => why.number(),
+        Ok(_) => 0,
+        Err(why) => why.number(),
     }
 }
 
-// How many bytes still have the value 97.
-fn kept(buffer: &[u8; SIZE]) -> u32 {
-    let mut sum = 0u32;
-    for byte in buffer {
-        sum = std::num::wrapping_add_u32(sum, same(wide(*byte)));
-    }
-    sum
-}
-
-fn wide(byte: u8) -> u32 {
-    byte as u32
-}
-
-fn same(value: u32) -> u32 {
-    if value == 97 { 1 } else { 0 }
+// How many places of a list still have this value.
+fn kept<T: Copy + PartialEq>(list: &[T], value: T) -> u32
+    requires { length list.now ≤ 162 }
+{
+    list.iter().filter(|place| **place == value).count() as u32
 }
 
 // A line: the word, the refusal, what was kept.
 fn tell<W: Write>(output: &mut W, word: &[u8], number: u32, left: u32) {
-    let mut page = [0u8; 64];
-    let mut end = pieces::put(&mut page, 0, word);
-    end = pieces::put(&mut page, end, b" deck");
-    end = text::count(&mut page, end, number);
-    end = pieces::put(&mut page, end, b" kept");
-    end = text::count(&mut page, end, left);
-    end = pieces::put(&mut page, end, b"\n");
-    stdio::write(output, &page[..end]);
+    let mut space = [0u8; 64];
+    let mut page = Page {
+        bytes: &mut space,
+        at: 0,
+    };
+    pieces::put(&mut page, word);
+    pieces::put(&mut page, b" deck");
+    text::count(&mut page, number);
+    pieces::put(&mut page, b" kept");
+    text::count(&mut page, left);
+    pieces::put(&mut page, b"\n");
+    let end = page.at;
+    stdio::write(output, &space[..end]);
 }

@@ -15,16 +15,15 @@ pub fn read<R: Read>(input: &mut R, space: &mut [u8], most: usize) -> usize
     ensures prefix_len { IsPrefixLen result space.new }
     ensures upper_bound { result ≤ most }
 {
-    if space.len() < most {
-        return read_full(input, space);
-    }
-    read_full(input, &mut space[..most])
+    let room = most.min(space.len());
+    read_full(input, &mut space[..room])
 }
 
 // Reads until the space is full or the input ends.
 fn read_full<R: Read>(input: &mut R, space: &mut [u8]) -> usize
     ensures { IsPrefixLen result space.new }
 {
+    // A loop: what the library has for it asks for a Vec, or does not say how much came.
     let mut done = 0;
     while done < space.len() {
         match input.read(&mut space[done..]) {

@@ -10,5 +10,5 @@ use Rattle.tag.proofs.put.Kinds as put-kinds
 pub present_fixes : Fixes 0 present-kinds.ps present-kinds.r present.Learnt
 present_fixes κs a x y v w p q = (one_result p q, refl)
 
-pub put_fixes : Fixes 1 put-kinds.ps put-kinds.r put.Learnt
-put_fixes κs a x y v w p q = (one_result p.0 q.0, ap (λ l. (tt, (l, (tt, tt)))) (one_result p.1 q.1))
+pub put_fixes : Fixes 2 put-kinds.ps put-kinds.r put.Learnt
+put_fixes κs a x y v w p q = (refl, ap (λ l. (tt, (l, tt))) (one_result p q))

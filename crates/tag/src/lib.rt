@@ -5,44 +5,37 @@
 #![tactic(auto)]
 
 ghost use Rattle.std.specs.Prelude.{◌≡◌};
-ghost use Rattle.pieces.specs.Pieces.{put_in, end_in};
-ghost use Rattle.tag.specs.Tag.{epoch_of, tag_with, tag_text};
+ghost use Rattle.pieces.specs.Page.{written};
+ghost use Rattle.tag.specs.Tag.{tag_with, tag_text};
 
-// Object and epoch: absent, which is not the same as zero, or both.
+use pieces::Page;
+
+// Object and epoch. A card has both, or neither, which is not the same as zero: an Option says which.
 #[derive(Clone, Copy)]
-pub enum Tag {
-    Absent,
-    Present { object: u32, epoch: i64 },
+pub struct Tag {
+    pub object: u32,
+    pub epoch: i64,
 }
 
 // This object, and the epoch that a word of eight bytes stands for.
 pub fn present(object: u32, word: u64) -> Tag
     ensures { result ≡ tag_with object word }
 {
-    let epoch = seconds(word);
-    Tag::Present { object, epoch }
-}
-
-// The epoch that a word stands for.
-fn seconds(word: u64) -> i64
-    ensures { result ≡ epoch_of word }
-{
-    if word < 0x8000_0000_0000_0000 {
-        return word as i64;
+    Tag {
+        object,
+        epoch: word.cast_signed(),
     }
-    -1 - (0xffff_ffff_ffff_ffff - word) as i64
 }
 
-// A space and `-` twice, or object and epoch in decimal, from index at on. Answers where it ends.
-pub fn put(tag: Tag, page: &mut [u8], at: usize) -> usize
-    ensures value { result ≡ end_in page.old at (tag_text tag) }
-    ensures page_after { page.new ≡ put_in page.old at (tag_text tag) }
+// A space and `-` twice, or object and epoch in decimal, in a page.
+pub fn put(tag: Option<Tag>, page: &mut Page)
+    ensures { page.new ≡ written page.old (tag_text tag) }
 {
     match tag {
-        Tag::Absent => pieces::put(page, at, b" - -"),
-        Tag::Present { object, epoch } => {
-            let end = text::count(page, at, object);
-            text::signed(page, end, epoch)
+        None => pieces::put(page, b" - -"),
+        Some(tag) => {
+            text::count(page, tag.object);
+            text::signed(page, tag.epoch);
         }
     }
 }

@@ -5,19 +5,14 @@
 #![tactic(auto)]
 
 ghost use Rattle.std.specs.Prelude.{◌≡◌};
-ghost use Rattle.rows.specs.Rows.{refusal_in};
-ghost use Rattle.arc_entry.specs.Said.{passed_start};
 ghost use Rattle.card.specs.Fields.{parts};
 ghost use Rattle.ruling.specs.Said.{said};
-ghost use Rattle.arc.specs.Arc.{velocity_at};
-ghost use Rattle.compared.specs.Said.{as_solved};
-ghost use Rattle.compared.specs.Compared.{found_by};
-ghost use Rattle.transfer_verdict.specs.TransferVerdict.{same_velocity, at_z, transfer_card};
+ghost use Rattle.compared.specs.Said.{by_number, as_solved};
+ghost use Rattle.transfer_verdict.specs.TransferVerdict.{at_z, transfer_card};
 
-use arc::{Departure, Scaled};
-use arc_entry::Start;
-use card::{Asked, Z};
-use compared::{Place, Timed};
+use arc::{Reason, Scaled};
+use card::Z;
+use compared::Place;
 use ruling::{Fault, Verdict};
 use search::Bracket;
 
@@ -25,49 +20,37 @@ use search::Bracket;
 pub fn judge(question: &[u8], answer: &[u8]) -> Verdict
     ensures { said result ≡ as_solved (transfer_card (parts question.now answer.now)) }
 {
-    let Asked::Transfer(q) = card::transfer(question) else {
-        return Verdict::Rejected(Fault::WordNotAllowed.number());
-    };
-    let start = arc_entry::entry(q);
-    let Start::Passed(o, b) = start else {
-        return Verdict::Rejected(own_refusal(start));
+    match tested(question, answer) {
+        Ok(residual) => Verdict::Solved(residual),
+        Err(number) => Verdict::Rejected(number),
+    }
+}
+
+// The card's way, and the tests of its own transfer before the first guess; the residual, or the number with
+// which the card is rejected, as `Verdict` has it.
+fn tested(question: &[u8], answer: &[u8]) -> Result<f64, u32>
+    ensures { by_number result ≡ transfer_card (parts question.now answer.now) }
+{
+    let q = card::transfer(question).ok_or(Fault::WordNotAllowed.number())?;
+    // let .. else, and no `?`: docs/RULES.md, The shape of each place 4.
+    let start = arc_entry::entry(q).map_err(Reason::number);
+    let Ok((o, b)) = start else {
+        return Err(start.err().unwrap_or(0));
     };
     at_z(answer, o, b)
 }
 
-// The number of the transfer's own refusal; 0 where it passed the tests.
-fn own_refusal(start: Start) -> u32
-    ensures { result ≡ refusal_in (passed_start start) }
-{
-    match start {
-        Start::Passed(_, _) => 0,
-        Start::Refused(why) => why.number(),
-    }
-}
-
-// A card whose transfer passed: its z, and the time there.
-fn at_z(answer: &[u8], o: Scaled, b: Bracket) -> Verdict
-    ensures { said result ≡ as_solved (at_z answer.now o b) }
+// A card whose transfer passed: its z, the time there, and the velocity, which is what z comes to or is not
+// trusted.
+fn at_z(answer: &[u8], o: Scaled, b: Bracket) -> Result<f64, u32>
+    ensures { by_number result ≡ at_z answer.now o b }
 {
     let z = card::number(answer, Z);
-    match compared::time(b, z, o.time_at(z), o.t, o.f4) {
-        Timed::Rejected(number) => Verdict::Rejected(number),
-        Timed::Residual(residual) => leaves(answer, o, z, residual),
-    }
-}
-
-// The velocity, which is what z comes to or is not trusted.
-fn leaves(answer: &[u8], o: Scaled, z: f64, residual: f64) -> Verdict
-    ensures { said result ≡ as_solved (found_by (velocity_at o) (same_velocity answer.now) z residual) }
-{
-    match o.velocity_at(z) {
-        Departure::Refused(why) => Verdict::Rejected(why.number()),
-        Departure::Velocity(v) => {
-            if compared::same(answer, Place::First, v) {
-                Verdict::Solved(residual)
-            } else {
-                Verdict::Rejected(Fault::StateDiffers.number())
-            }
-        }
+    let residual = compared::time(b, z, o.time_at(z), o.t, o.f4)?;
+    let v = o.velocity_at(z).map_err(Reason::number)?;
+    if compared::same(answer, Place::First, v) {
+        Ok(residual)
+    } else {
+        Err(Fault::StateDiffers.number())
     }
 }

@@ -1,5 +1,4 @@
 pub mod Places
-pub mod Rooted
 pub mod Refusals
 pub mod Positive
 pub mod Theorems

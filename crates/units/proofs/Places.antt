@@ -1,7 +1,7 @@
 -- The numbers given: the row of tests over a list refuses at the first place whose number is not finite, with what the caller gives to that
 -- place (`refuses_first`, `first_refused`), and the same row with other numbers refuses at the same place (`given_again`).
 use mathlib.Core.Path.{◌≡◌, refl, sym, ap, ◌∙◌}
-use mathlib.Core.Bool.{Bool, true, false}
+use mathlib.Core.Bool.{Bool, true, false, cond, not}
 use mathlib.Core.List.{List, [], ◌∷◌}
 use Prim.Native.Nat.{ℕ, zero, suc, ◌+◌, ◌≤◌, ◌<◌}
 use native.Mathlib.Numerals.{add-one}
@@ -11,10 +11,13 @@ use lib.Dec.{ltb}
 use lib.ListN.{length, drop, get_or, drop_of_length-le}
 use lib.Seq.{drop-cons}
 use lib.Ieee.{Float, nan}
+use Rattle.std.specs.Prelude.{Option, Some, None, Result, Ok, Err}
+use Rattle.std.specs.List.{position, position_from}
+use Rattle.std.proofs.lemmas.Iterator.Adapters.{position_from-zero}
 use Rattle.exact.specs.Numbers.{is_finite}
-use Rattle.rows.specs.Rows.{Checked, pass, refuse, must}
+use Rattle.rows.specs.Rows.{Checked, pass, refuse, must, checked}
 use Rattle.rows.proofs.Laws.{Refuses, passes, refuses}
-use Rattle.units.specs.declared.Finite.{Finite}
+use Rattle.units.specs.declared.NotFinite.{NotFinite}
 use Rattle.units.specs.Units.{finite_from, by_place}
 use Rattle.units.specs.Said.{given_said}
 
@@ -82,9 +85,28 @@ module _ (number : ℕ → ℕ) (list : List Float) where
     pub refuses_first : Refuses P (finite_from number 0 list)
     refuses_first = from (length list) 0 (omega arith) (λ i h. absurd (omega (arith, h)))
 
+-- ---- the first that is not finite, as a search finds it
+
+abbrev pub is_first : Option ℕ → Checked (Unit {0})
+is_first (Some place) = refuse place
+is_first None = pass tt
+
+by_first_from : (place : ℕ) (list : List Float) → is_first (position_from (λ x. not (is_finite x)) place list) ≡ finite_from by_place place list
+unfolding finite_from must
+by_first_from place [] = refl
+by_first_from place (x ∷ rest) = go (is_finite x) (by_first_from (place + 1) rest)
+  where
+    go : (b : Bool) → is_first (position_from (λ x. not (is_finite x)) (place + 1) rest) ≡ finite_from by_place (place + 1) rest
+        → is_first (cond (not b) (Some place) (position_from (λ x. not (is_finite x)) (place + 1) rest)) ≡ must b place (finite_from by_place (place + 1) rest)
+    go true e = e
+    go false e = refl
+
+pub by_first : (list : List Float) → is_first (position (λ x. not (is_finite x)) list) ≡ finite_from by_place 0 list
+by_first list = ap is_first (position_from-zero (λ x. not (is_finite x)) list) ∙ by_first_from 0 list
+
 -- ---- the same row with other numbers
 
-abbrev pub again : (ℕ → ℕ) → Checked (Unit {0}) → Checked (Unit {0})
+abbrev again : (ℕ → ℕ) → Checked (Unit {0}) → Checked (Unit {0})
 again number (pass good) = pass tt
 again number (refuse place) = refuse (number place)
 
@@ -98,5 +120,6 @@ renumbered number place (x ∷ rest) = go (renumbered number (place + 1) rest) (
     go others false = refl
 
 -- so what `given` answers says what the caller's own row comes to
-pub given_again : (number : ℕ → ℕ) (list : List Float) {a : Finite} (b : Finite) → given_said a ≡ finite_from by_place 0 list → a ≡ b → finite_from number 0 list ≡ again number (given_said b)
-given_again number list b e is = renumbered number 0 list ∙ ap (again number) (sym e ∙ ap given_said is)
+pub given_again : (number : ℕ → ℕ) (list : List Float) (a : Result (Unit {0}) NotFinite) → given_said a ≡ finite_from by_place 0 list → finite_from number 0 list ≡ checked (λ why. number why.place) a
+given_again number list (Ok good) e = renumbered number 0 list ∙ ap (again number) (sym e)
+given_again number list (Err why) e = renumbered number 0 list ∙ ap (again number) (sym e)

@@ -1,51 +1,38 @@
--- What an answer says can be undone, so `given_said`, `length_said` and `unit_said` are one to one, and the contracts through them have one answer.
+-- What an answer says can be undone, so `given_said` and `measured_said` are one to one, and the contracts through them have one answer.
 use mathlib.Core.Path.{◌≡◌, refl}
+use Prim.Native.Nat.{ℕ}
 use lib.Ieee.{Float}
+use Rattle.std.specs.Prelude.{Result, Ok, Err}
 use Rattle.coincidence.specs.Coincidence.{OneToOne}
 use Rattle.coincidence.proofs.Laws.{undone}
-use Rattle.rows.specs.Rows.{Checked}
-use Rattle.rows.proofs.Laws.{taken_back}
-use Rattle.units.specs.declared.Finite.{Finite}
-use Rattle.units.specs.declared.Finite.TheVariants as finite
-use Rattle.units.specs.declared.Length.{Length}
-use Rattle.units.specs.declared.Length.TheVariants as span
-use Rattle.units.specs.declared.TimeUnit.{TimeUnit}
-use Rattle.units.specs.declared.TimeUnit.TheVariants as unit
+use Rattle.rows.proofs.Laws.{checked_once}
+use Rattle.units.specs.declared.NotFinite.{NotFinite}
+use Rattle.units.specs.declared.Unmeasured.{Unmeasured}
+use Rattle.units.specs.declared.Unmeasured.TheVariants.{Unusable, RootRefused}
 use Rattle.units.specs.Units.{Measured, measured, unusable, root_refused}
-use Rattle.units.specs.Said.{given_said, length_said, unit_said}
+use Rattle.units.specs.Said.{place_of, given_said, measured_said}
 
-abbrev ungiven : Checked (Unit {0}) → Finite
-ungiven c = taken_back (λ good. finite.All) finite.NotAt c
-
-given_is : (a : Finite) → ungiven (given_said a) ≡ a
-given_is finite.All = refl
-given_is (finite.NotAt place) = refl
+abbrev not_finite_at : ℕ → NotFinite
+not_finite_at place = record { place = place }
 
 pub given_once : OneToOne given_said
-given_once = undone given_said ungiven given_is
+given_once = checked_once place_of not_finite_at (λ why. refl)
 
-abbrev unlength : Measured Float → Length
-unlength (measured r0) = span.Measured r0
-unlength unusable = span.Unusable
-unlength root_refused = span.RootRefused
+abbrev unmeasured : {A : Type 0} → Measured A → Result A Unmeasured
+unmeasured (measured x) = Ok x
+unmeasured unusable = Err Unusable
+unmeasured root_refused = Err RootRefused
 
-length_is : (a : Length) → unlength (length_said a) ≡ a
-length_is (span.Measured r0) = refl
-length_is span.Unusable = refl
-length_is span.RootRefused = refl
+measured_is : {A : Type 0} (a : Result A Unmeasured) → unmeasured (measured_said a) ≡ a
+measured_is (Ok x) = refl
+measured_is (Err Unusable) = refl
+measured_is (Err RootRefused) = refl
 
-pub length_once : OneToOne length_said
-length_once = undone length_said unlength length_is
+measured_once : {A : Type 0} → OneToOne (measured_said {A = A})
+measured_once = undone measured_said unmeasured measured_is
 
-abbrev ununit : Measured (Float × Float) → TimeUnit
-ununit (measured f) = unit.Measured f.0 f.1
-ununit unusable = unit.Unusable
-ununit root_refused = unit.RootRefused
+pub length_once : OneToOne (measured_said {A = Float})
+length_once = measured_once
 
-unit_is : (a : TimeUnit) → ununit (unit_said a) ≡ a
-unit_is (unit.Measured f1 f4) = refl
-unit_is unit.Unusable = refl
-unit_is unit.RootRefused = refl
-
-pub unit_once : OneToOne unit_said
-unit_once = undone unit_said ununit unit_is
+pub unit_once : OneToOne (measured_said {A = Float × Float})
+unit_once = measured_once

@@ -8,52 +8,46 @@
 
 ghost use Rattle.std.specs.Prelude.{◌≡◌};
 ghost use Rattle.units.specs.Units.{by_place, finite_from, given_tested, is_usable, radius_of, unit_of};
-ghost use Rattle.units.specs.Said.{given_said, length_said, unit_said};
+ghost use Rattle.units.specs.Said.{given_said, measured_said};
+ghost use Rattle.units.specs.declared.Unmeasured.TheVariants.{RootRefused};
 
-use root::Answer;
 use vectors::Vector;
 
-// Every number given is finite; or the first place, from 0 on, of one that is not.
+// The first place, from 0 on, of a number given that is not finite.
 #[derive(Clone, Copy)]
-pub enum Finite {
-    All,
-    NotAt(u8),
+pub struct NotFinite {
+    pub place: u8,
 }
 
-// A radius; or it is not usable; or its root was refused.
+// Why nothing is measured: a value on the way is not usable, or a root was refused.
 #[derive(Clone, Copy)]
-pub enum Length {
-    Measured(f64),
+pub enum Unmeasured {
     Unusable,
     RootRefused,
 }
 
-// f1 and the time unit f4; or one on the way is not usable; or the root was refused.
-#[derive(Clone, Copy)]
-pub enum TimeUnit {
-    Measured(f64, f64),
-    Unusable,
-    RootRefused,
+impl From<root::Reason> for Unmeasured {
+    ghost from_gives = { λ _ why. why ≡ RootRefused };
+
+    fn from(_why: root::Reason) -> Unmeasured {
+        Unmeasured::RootRefused
+    }
 }
 
 // The eight numbers given, tested by their places: mu, two vectors, and the time or the angle.
-pub fn given(mu: f64, a: Vector, b: Vector, last: f64) -> Finite
+pub fn given(mu: f64, a: Vector, b: Vector, last: f64) -> Result<(), NotFinite>
     ensures { given_said result ≡ given_tested by_place mu a b last }
 {
     first_not_finite([mu, a.x, a.y, a.z, b.x, b.y, b.z, last])
 }
 
-fn first_not_finite(numbers: [f64; 8]) -> Finite
+fn first_not_finite(numbers: [f64; 8]) -> Result<(), NotFinite>
     ensures { given_said result ≡ finite_from by_place 0 numbers }
 {
-    let mut place = 0u8;
-    while place < 8 {
-        if !exact::finite(numbers[place as usize]) {
-            return Finite::NotAt(place);
-        }
-        place += 1;
+    match numbers.iter().position(|x| !exact::finite(*x)) {
+        Some(place) => Err(NotFinite { place: place as u8 }),
+        None => Ok(()),
     }
-    Finite::All
 }
 
 // Neither zero nor NaN nor infinite.
@@ -64,36 +58,34 @@ fn usable(x: f64) -> bool
 }
 
 // r0.
-pub fn radius(r: Vector) -> Length
-    ensures { length_said result ≡ radius_of r }
+#[tactic(auto, unfolding(crate::specs::Units::radius_of))]
+pub fn radius(r: Vector) -> Result<f64, Unmeasured>
+    ensures { measured_said result ≡ radius_of r }
 {
     let square = vectors::product(r, r);
     if !usable(square) {
-        return Length::Unusable;
+        return Err(Unmeasured::Unusable);
     }
-    let Answer::Root(r0) = root::root(square) else {
-        return Length::RootRefused;
-    };
+    let r0 = root::root(square)?;
     if !usable(r0) {
-        return Length::Unusable;
+        return Err(Unmeasured::Unusable);
     }
-    Length::Measured(r0)
+    Ok(r0)
 }
 
 // f1 and f4.
-pub fn time_unit(mu: f64, r0: f64) -> TimeUnit
-    ensures { unit_said result ≡ unit_of mu r0 }
+#[tactic(auto, unfolding(crate::specs::Units::unit_of))]
+pub fn time_unit(mu: f64, r0: f64) -> Result<(f64, f64), Unmeasured>
+    ensures { measured_said result ≡ unit_of mu r0 }
 {
     let quotient = r0 / mu;
     if !usable(quotient) {
-        return TimeUnit::Unusable;
+        return Err(Unmeasured::Unusable);
     }
-    let Answer::Root(f1) = root::root(quotient) else {
-        return TimeUnit::RootRefused;
-    };
+    let f1 = root::root(quotient)?;
     let f4 = r0 * f1;
     if !(usable(f1) & usable(f4)) {
-        return TimeUnit::Unusable;
+        return Err(Unmeasured::Unusable);
     }
-    TimeUnit::Measured(f1, f4)
+    Ok((f1, f4))
 }

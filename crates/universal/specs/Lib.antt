@@ -1,3 +1,2 @@
 pub mod Series
 pub mod Functions
-pub mod Said

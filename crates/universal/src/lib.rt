@@ -6,10 +6,9 @@
 #![tactic(auto)]
 
 ghost use Rattle.std.specs.Prelude.{◌≡◌};
+ghost use Rattle.rows.specs.Rows.{stated};
+ghost use Rattle.universal.specs.Series.{out_of_range};
 ghost use Rattle.universal.specs.Functions.{quartered, doubled_once, functions_at, or_nans, time_of, ratio_of};
-ghost use Rattle.universal.specs.Said.{valued};
-
-use crate::series::Sum;
 
 pub mod series;
 
@@ -21,29 +20,20 @@ pub struct Functions {
     pub u3: f64,
 }
 
-// The functions; or refused, since the series are.
-#[derive(Clone, Copy)]
-pub enum Values {
-    Worked(Functions),
-    Refused,
-}
-
-// U0..U3 at x: worked at x/4 and doubled twice.
-pub fn at(x: f64, alpha: f64) -> Values
-    ensures { valued result ≡ functions_at x alpha }
+// U0..U3 at x: worked at x/4 and doubled twice. None where the series are refused.
+#[tactic(auto, unfolding(rows::specs::Rows::onward, crate::specs::Functions::functions_at))]
+pub fn at(x: f64, alpha: f64) -> Option<Functions>
+    ensures { stated out_of_range result ≡ functions_at x alpha }
 {
     let y = x / 4.0;
     let z = alpha * (y * y);
-    let Sum::Worked(c2) = series::c2(z) else {
-        return Values::Refused;
-    };
-    let Sum::Worked(c3) = series::c3(z) else {
-        return Values::Refused;
-    };
-    Values::Worked(doubled(alpha, doubled(alpha, quarter(y, alpha, c2, c3))))
+    let c2 = series::c2(z)?;
+    let c3 = series::c3(z)?;
+    Some(doubled(alpha, doubled(alpha, quarter(y, alpha, c2, c3))))
 }
 
-// The same for a time, in which functions that are refused stand as NaNs.
+// The same for a time, in which functions that are refused stand as NaNs. Not made of `at`, so that the
+// steps stay in one line.
 pub fn at_or_nan(x: f64, alpha: f64) -> Functions
     ensures { result ≡ or_nans (functions_at x alpha) }
 {

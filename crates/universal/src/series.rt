@@ -1,7 +1,7 @@
-// C2 and C3: RULES, The universal functions 1 to 4 and 9. One loop works both, from k = 11 down.
+// C2 and C3: docs/RULES.md, The universal functions 1 to 4 and 9. One loop works both, from k = 11 down.
 ghost use Rattle.std.specs.Prelude.{◌≡◌};
+ghost use Rattle.rows.specs.Rows.{stated};
 ghost use Rattle.universal.specs.Series.{worked, in_range, out_of_range, series_by, series_of, sum_or_nan, sums_or_nans};
-ghost use Rattle.universal.specs.Said.{summed};
 
 // The largest |z| for which twelve terms are good.
 const RANGE: f64 = 4.0;
@@ -41,13 +41,6 @@ const ODD: [f64; 12] = [
     6.446950284384474e-26,
 ];
 
-// A series worked at z; or refused, since z is not in its range.
-#[derive(Clone, Copy)]
-pub enum Sum {
-    Worked(f64),
-    Refused,
-}
-
 // Both sums.
 #[derive(Clone, Copy)]
 pub struct Pair {
@@ -55,21 +48,23 @@ pub struct Pair {
     pub c3: f64,
 }
 
-// The refusal's number.
+// The refusal's number. A number, and no error of one value: the line of the series alone tells it, and an
+// Option says that there is no sum.
 pub fn refusal() -> u32
     ensures { result ≡ out_of_range }
 {
     OUT_OF_RANGE
 }
 
-pub fn c2(z: f64) -> Sum
-    ensures { summed result ≡ series_of 2 z }
+// C2, worked at z; none where z is not in the range. It and C3 are `ranged` with a table each.
+pub fn c2(z: f64) -> Option<f64>
+    ensures { stated out_of_range result ≡ series_of 2 z }
 {
     ranged(EVEN, z)
 }
 
-pub fn c3(z: f64) -> Sum
-    ensures { summed result ≡ series_of 3 z }
+pub fn c3(z: f64) -> Option<f64>
+    ensures { stated out_of_range result ≡ series_of 3 z }
 {
     ranged(ODD, z)
 }
@@ -84,21 +79,19 @@ pub fn both_or_nan(z: f64) -> Pair
     }
 }
 
-fn ranged(table: [f64; 12], z: f64) -> Sum
-    ensures { summed result ≡ series_by table z }
+// The sum is worked in either case: a choice at the end keeps the steps in one line, and a time quick.
+#[tactic(auto, unfolding(rows::specs::Rows::must))]
+fn ranged(table: [f64; 12], z: f64) -> Option<f64>
+    ensures { stated out_of_range result ≡ series_by table z }
 {
-    if !in_range(z) {
-        return Sum::Refused;
-    }
-    Sum::Worked(horner(table, z))
+    in_range(z).then_some(horner(table, z))
 }
 
-// The sum is worked in either case: a choice at the end keeps the steps in one line, and a time quick.
+// A sum that is refused is NaN.
 fn or_nan(table: [f64; 12], z: f64) -> f64
     ensures { result ≡ sum_or_nan (series_by table z) }
 {
-    let sum = horner(table, z);
-    if in_range(z) { sum } else { 0.0 / 0.0 }
+    ranged(table, z).unwrap_or(0.0 / 0.0)
 }
 
 // |z| ≤ 4, which is false of NaN.
@@ -113,10 +106,8 @@ fn horner(table: [f64; 12], z: f64) -> f64
     ensures { result ≡ worked table z }
 {
     let mut sum = table[11];
-    let mut k = 11usize;
-    while 0 < k {
-        k -= 1;
-        sum = sum * -z + table[k];
+    for c in table[..11].iter().rev() {
+        sum = sum * -z + *c;
     }
     sum
 }

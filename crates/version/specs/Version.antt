@@ -1,10 +1,8 @@
 -- The versions of a deck: RULES, The deck and Writing a deck. Definitions only.
-use Rattle.std.specs.Prelude.{ℕ, cond, eqb}
-use Rattle.rows.specs.Rows.{Checked, pass, refuse, must, renumbered, onward}
+use Rattle.std.specs.Prelude.{ℕ, cond, eqb, Option}
+use Rattle.rows.specs.Rows.{Checked, pass, refuse, must, renumbered, onward, stated}
 use Rattle.version.specs.declared.Version.{Version}
 use Rattle.version.specs.declared.Version.TheVariants as version
-use Rattle.version.specs.declared.Stated.{Stated}
-use Rattle.version.specs.declared.Stated.TheVariants as state
 
 -- The deck 1: the version that 1 or 2 names; another number is refused with 31
 unfoldable pub version_of : ℕ → Checked Version
@@ -35,14 +33,9 @@ version_given number form =
     must (eqb form (form_number v)) 42
     (pass v))
 
--- a version, or the number of the refusal where none is stated
-abbrev pub stated : (k : ℕ) → Stated → Checked Version
-stated k (state.Version v) = pass v
-stated k state.Unknown = refuse k
-
 -- The deck 1: what a number says of a deck; and Writing a deck 1: what number and form say of one that is to be written
-abbrev pub named_said : Stated → Checked Version
+abbrev pub named_said : Option Version → Checked Version
 named_said a = stated 31 a
 
-abbrev pub given_said : Stated → Checked Version
+abbrev pub given_said : Option Version → Checked Version
 given_said a = stated 42 a

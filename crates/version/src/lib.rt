@@ -14,15 +14,9 @@ pub enum Version {
     Two,
 }
 
-// What numbers state: a version, or none.
-#[derive(Clone, Copy)]
-pub enum Stated {
-    Version(Version),
-    Unknown,
-}
-
 impl Version {
-    // Its number at the front of a deck.
+    // Its number at the front of a deck. No `From`, here and below: a version has two numbers (docs/DECISIONS.md
+    // 149).
     pub fn number(self) -> u32
         ensures { result ≡ version_number self }
     {
@@ -56,26 +50,25 @@ impl Version {
 // The bytes of object and epoch where a card has them.
 pub const TAG: usize = 4 + 8;
 
-// The version that has this number.
-pub fn named(number: u32) -> Stated
+// The version that has this number. No `TryFrom`: an Option says that there is none (docs/DECISIONS.md 149).
+pub fn named(number: u32) -> Option<Version>
     ensures { named_said result ≡ version_of number }
 {
     match number {
-        1 => Stated::Version(Version::One),
-        2 => Stated::Version(Version::Two),
-        _ => Stated::Unknown,
+        1 => Some(Version::One),
+        2 => Some(Version::Two),
+        _ => None,
     }
 }
 
-// The version that is given for a deck, where what goes into it has that version's form.
-pub fn given(number: u32, form: u32) -> Stated
+// The version that is given for a deck, where what goes into it has that version's form. Two numbers, as they
+// are given by a program or in C: another than 1 and 2, or 0 and 1, is refused here.
+pub fn given(number: u32, form: u32) -> Option<Version>
     ensures { given_said result ≡ version_given number form }
 {
-    let Stated::Version(version) = named(number) else {
-        return Stated::Unknown;
-    };
+    let version = named(number)?;
     if form != version.form() {
-        return Stated::Unknown;
+        return None;
     }
-    Stated::Version(version)
+    Some(version)
 }

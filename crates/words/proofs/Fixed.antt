@@ -17,8 +17,8 @@ word_fixes κs a x y v w p q = (one_result p q, refl)
 pub half_fixes : Fixes 1 half-kinds.ps half-kinds.r half.Learnt
 half_fixes κs a x y v w p q = (one_result p q, refl)
 
-pub put_word_fixes : Fixes 1 put-word-kinds.ps put-word-kinds.r put_word.Learnt
-put_word_fixes κs a x y v w p q = (one_result p.0 q.0, ap (λ l. (l, (tt, (tt, tt)))) (one_result p.1 q.1))
+pub put_word_fixes : Fixes 2 put-word-kinds.ps put-word-kinds.r put_word.Learnt
+put_word_fixes κs a x y v w p q = (refl, ap (λ l. (l, (tt, tt))) (one_result p q))
 
-pub put_half_fixes : Fixes 1 put-half-kinds.ps put-half-kinds.r put-half.Learnt
-put_half_fixes κs a x y v w p q = (one_result p.0 q.0, ap (λ l. (l, (tt, (tt, tt)))) (one_result p.1 q.1))
+pub put_half_fixes : Fixes 2 put-half-kinds.ps put-half-kinds.r put-half.Learnt
+put_half_fixes κs a x y v w p q = (refl, ap (λ l. (l, (tt, tt))) (one_result p q))

@@ -1,24 +1,32 @@
--- Laws of `value` and `value_at`: what a byte in front adds, how large the value of k bytes is, and that these k bytes alone make it.
+-- Laws of `value` and `value_at`: what the last byte adds, how large the value of k bytes is, and that these k bytes alone make it.
 use mathlib.Core.Path.{◌≡◌, refl, sym, ap, ◌∙◌}
 use mathlib.Core.Bool.{Bool, cond}
 use mathlib.Core.List.{List, [], ◌∷◌}
 use Prim.Native.Nat.{ℕ, zero, suc, ◌+◌, ◌*◌, ◌^◌, ◌≤◌, ◌<◌}
-use native.Mathlib.Nat.{one-le-pow, pow-succ'}
-use native.Mathlib.Numerals.{add-one}
+use native.Mathlib.Nat.{one-le-pow, pow-suc, pow-succ', mul_assoc}
 use native.Mathlib.Omega.{arith}
 use lib.ListN.{length, take, drop, get_or}
-use lib.Seq.{drop-cons}
 use borrow.Author.Tests.{le-leb, lt-leb}
+use Rattle.std.specs.Prelude.{Option, Some, None}
+use Rattle.std.specs.Option.{MatchOption, unwrap_or}
+use Rattle.std.specs.Int.{byte_worth, sum_through}
 use Rattle.words.specs.Words.{value, value_at}
 
--- what a byte in front adds
-pub value_front : (k b : ℕ) (l : List ℕ) → value (k + 1) (b ∷ l) ≡ b + 256 * value k l
+-- what the last byte adds
+value_last : (k : ℕ) (l : List ℕ) → value (suc k) l ≡ value k l + get_or l k 0 * 256 ^ k
 unfolding value
-value_front k b l = rw add-one
+value_last zero [] = refl
+value_last zero (b ∷ l) = omega arith
+value_last (suc k) [] = omega arith
+value_last (suc k) (b ∷ l) =
+    let weight : get_or l k 0 * 256 ^ suc k ≡ get_or l k 0 * 256 ^ k * 256 = rw pow-suc (sym (mul_assoc (get_or l k 0) (256 ^ k) 256)) in
+    omega (arith, value_last k l, weight)
 
--- the same inside a list: the byte at index `at`, in front of those after it
-pub value_drop : (k : ℕ) (l : List ℕ) (at : ℕ) → at < length l → value (k + 1) (drop at l) ≡ get_or l at 0 + 256 * value k (drop (at + 1) l)
-value_drop k l at h = rw (drop-cons l at 0, value_front, add-one at)
+-- so it is the sum of its bytes, each at its weight
+weighed : (k : ℕ) (l : List ℕ) → sum_through (λ i. byte_worth i (get_or l i 0)) k ≡ value (suc k) l
+unfolding value
+weighed zero l = omega (arith, value_last 0 l)
+weighed (suc k) l = ap (λ (n : ℕ). n + get_or l (suc k) 0 * 256 ^ suc k) (weighed k l) ∙ sym (value_last (suc k) l)
 
 -- k bytes have a value below 256 ^ k
 pub value_bound : (k : ℕ) (l : List ℕ) → ((i : ℕ) → get_or l i 0 < 256) → value k l < 256 ^ k
@@ -51,3 +59,9 @@ value_at_same k l at l' at' h h' e =
     ∙ ap (value k) e
     ∙ value_take k (drop at' l')
     ∙ sym (value_at_inside k l' at' h')
+
+-- so is a number read from a part of the list, and 0 where there is none
+pub part_read : (k : ℕ) (l : List ℕ) (at : ℕ) (part : Option (List ℕ)) (zeros : List ℕ) → MatchOption part (length l < at + suc k) (λ bytes. (at + suc k ≤ length l) × (bytes ≡ take (suc k) (drop at l)))
+    → sum_through (λ i. byte_worth i (get_or zeros i 0)) k ≡ 0 → sum_through (λ i. byte_worth i (get_or (unwrap_or part zeros) i 0)) k ≡ value_at (suc k) l at
+part_read k l at None zeros outside none = none ∙ sym (value_at_outside (suc k) l at outside)
+part_read k l at (Some bytes) zeros inside none = weighed k bytes ∙ ap (value (suc k)) inside.1 ∙ value_take (suc k) (drop at l) ∙ sym (value_at_inside (suc k) l at inside.0)

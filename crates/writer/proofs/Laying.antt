@@ -7,8 +7,8 @@ use native.Mathlib.Numerals.{add-one}
 use native.Mathlib.Omega.{arith}
 use lib.ListN.{length, take, drop, get_or, length-drop, drop_of_length-le}
 use lib.Seq.{drop-cons, drop-drop}
-use Rattle.pieces.specs.Pieces.{Put}
-use Rattle.pieces.proofs.Puts.{renamed}
+use Rattle.pieces.specs.declared.Page.{Page}
+use Rattle.pieces.specs.Page.{written}
 use Rattle.pieces.proofs.InPieces.{InPieces, nothing_yet, one_on, all_there}
 use Rattle.rows.specs.Rows.{pass, refuse}
 use Rattle.rows.proofs.Laws.{pass_once}
@@ -22,19 +22,19 @@ use Rattle.layout.specs.Layout.{bodies_of}
 use Rattle.layout.specs.Packed.{packed_cards}
 use Rattle.layout.proofs.Packed.{OneMore, one_more, as_many}
 
-pub record Laying (v : Version) (kinds fields before : List ℕ) (start : ℕ) (buffer : List ℕ) (at end i : ℕ) : Type 0 where
+pub record Laying (v : Version) (kinds fields : List ℕ) (start page : Page) (at i : ℕ) : Type 0 where
   all : List Card
   cards_are : packed_cards v kinds fields ≡ pass all
   rest : List Card
   left : packed_cards v (drop i kinds) (drop at fields) ≡ pass rest
-  pub pieces : InPieces before start (bodies_of all) buffer end (bodies_of rest)
+  pub pieces : InPieces start (bodies_of all) page (bodies_of rest)
 
-pub begin : (v : Version) (kinds fields buffer : List ℕ) (start : ℕ) → Passes (packed_cards v kinds fields) → start ≤ length buffer → Laying v kinds fields buffer start buffer 0 start 0
-begin v kinds fields buffer start p h =
+pub begin : (v : Version) (kinds fields : List ℕ) (page : Page) → Passes (packed_cards v kinds fields) → page.at ≤ length page.bytes.now → Laying v kinds fields page page 0 0
+begin v kinds fields page p h =
     let cards = come_to_cards (packed_cards v kinds fields) p in
     record { all = cards.0; cards_are = cards.1; rest = cards.0; left = cards.1; pieces = nothing_yet (bodies_of cards.0) h }
 
-module _ {v : Version} {kinds fields before : List ℕ} {start : ℕ} {buffer : List ℕ} {at end i : ℕ} (s : Laying v kinds fields before start buffer at end i) where
+module _ {v : Version} {kinds fields : List ℕ} {start page : Page} {at i : ℕ} (s : Laying v kinds fields start page at i) where
   -- while a kind is left, so is a card
   next : i < length kinds → OneMore v (get_or kinds i 0) (drop (i + 1) kinds) (drop at fields) s.rest
   next h =
@@ -59,8 +59,8 @@ module _ {v : Version} {kinds fields before : List ℕ} {start : ℕ} {buffer : 
       ap (λ (k : Kind). body_from k (take (packed_size v k) (drop at fields)) ++ bodies_of (next h).rest) (sym (same_kind kind h r)) ∙ sym (ap bodies_of (next h).cards_is)
 
   -- a body is written
-  pub turn : (kind : Kind) {after : List ℕ} {stop : ℕ} → i < length kinds → kind_of (get_or kinds i 0) ≡ pass kind → Put buffer end (body_from kind (take (packed_size v kind) (drop at fields))) after stop
-      → Laying v kinds fields before start after (at + packed_size v kind) stop (i + 1)
+  pub turn : (kind : Kind) {after : Page} → i < length kinds → kind_of (get_or kinds i 0) ≡ pass kind → after ≡ written page (body_from kind (take (packed_size v kind) (drop at fields)))
+      → Laying v kinds fields start after (at + packed_size v kind) (i + 1)
   turn kind h r p =
       let n = next h in
       let others : packed_cards v (drop (i + 1) kinds) (drop (packed_size v kind) (drop at fields)) ≡ pass n.rest = rw (same_kind kind h r) at n.others in
@@ -69,13 +69,13 @@ module _ {v : Version} {kinds fields before : List ℕ} {start : ℕ} {buffer : 
         cards_are = s.cards_are;
         rest = n.rest;
         left = ap (packed_cards v (drop (i + 1) kinds)) (sym (drop-drop (packed_size v kind) at fields)) ∙ others;
-        pieces = one_on s.pieces (bodies_are kind h r) p;
+        pieces = one_on (body_from kind (take (packed_size v kind) (drop at fields))) s.pieces (bodies_are kind h r) p;
       }
 
   -- after the last one
-  pub laid : length kinds ≤ i → (cards : List Card) → packed_cards v kinds fields ≡ pass cards → Put before start (bodies_of cards) buffer end
+  pub laid : length kinds ≤ i → (cards : List Card) → packed_cards v kinds fields ≡ pass cards → page ≡ written start (bodies_of cards)
   unfolding bodies_of
   laid h cards e =
       let ended : s.rest ≡ [] = drop_of_length-le s.rest {i = 0} (omega (arith, as_many v (drop i kinds) (drop at fields) s.rest s.left ∙ ap length (drop_of_length-le kinds h))) in
       let same : s.all ≡ cards = pass_once (sym s.cards_are ∙ e) in
-      renamed (ap bodies_of same) (all_there s.pieces (ap bodies_of ended))
+      all_there s.pieces (ap bodies_of ended) ∙ ap (λ (l : List Card). written start (bodies_of l)) same

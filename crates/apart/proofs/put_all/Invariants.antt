@@ -1,10 +1,6 @@
--- What lasts over the turns of `apart::put_all`, and why they end.
-use Prim.Native.Nat.{◌-◌}
+-- What lasts over the turns of `apart::put_all`.
 use Rattle.apart.proofs.Turns.{Putting}
 use Rattle.apart.proofs.put_all.Given as goal
 
 abbrev pub invariant-loop-i : goal.invariant-loop-i
-invariant-loop-i l = Putting l.version l.deck l.count l.initial.fields l.fields l.at l.end l.i
-
-abbrev pub decreases-loop-i : goal.decreases-loop-i
-decreases-loop-i l = l.count - l.i
+invariant-loop-i l = Putting l.version l.deck l.count l.initial.page l.page l.at l.i

@@ -1,10 +1,12 @@
 -- `apart::put_fields` meets its contract: the problem, then the rest, from where it begins.
-use mathlib.Core.Path.{◌≡◌, refl, sym}
-use Prim.Native.Nat.{◌+◌, ◌-◌}
+use mathlib.Core.Path.{◌≡◌, refl, sym, ap, ◌∙◌}
+use mathlib.Core.List.{List, ◌++◌}
+use Prim.Native.Nat.{ℕ, ◌+◌, ◌-◌}
 use native.Mathlib.Omega.{arith}
 use lib.ListN.{take, drop}
 use lib.Seq.{length-take-le}
-use Rattle.pieces.proofs.Puts.{puts, renamed, wrote}
+use Rattle.pieces.specs.Page.{written}
+use Rattle.pieces.proofs.Pages.{two}
 use Rattle.card.specs.Fields.{problem_size, rest_size}
 use Rattle.card.specs.Made.{rest_from}
 use Rattle.card.proofs.Packed.{rest_behind, rest_inside}
@@ -31,4 +33,4 @@ returns c = let v = c.args.version in
     let size = c.packed.result - problem_size in
     let answer : first + size - first ≡ rest_size v kind = omega (arith, c.packed.ensures) in
     let answer_is : take (first + size - first) (drop first c.args.body.now) ≡ take (rest_size v kind) (drop (rest_from kind) c.args.body.now) = rw (answer, c.rest_from-first.ensures) refl in
-    puts (wrote (c.put-problem.ensures.value, c.put-problem.ensures.out_after)) (renamed answer_is (wrote (c.put.ensures.value, c.put.ensures.out_after)))
+    c.put-2.ensures ∙ rw (c.put.ensures, two) (ap (λ (l : List ℕ). written c.args.page.now (take problem_size c.args.body.now ++ l)) answer_is)

@@ -1,35 +1,35 @@
 -- `apart::take` meets its contract: what is refused alters nothing, and what is taken stands at the front of its list.
-use mathlib.Core.Path.{◌≡◌, sym, ap, ◌∙◌}
 use native.Mathlib.Omega.{arith}
 use lib.ListN.{length}
-use Rattle.rows.specs.Rows.{pass}
+use Rattle.std.proofs.Common.{rules}
+use Rattle.pieces.proofs.Pages.{pages, as_put}
 use Rattle.layout.proofs.Packed.{length_kinds}
-use Rattle.apart.specs.Apart.{kinds_taken, fields_taken, apart_of, sizes_of, said}
+use Rattle.apart.specs.Apart.{kinds_taken, fields_taken}
 use Rattle.apart.proofs.Taking.{Taken, refused, taken_apart, kept, filled}
 use Rattle.apart.proofs.take.Goals as goal
-use Rattle.apart.proofs.take.Goals.{In-Cards}
+use Rattle.apart.proofs.take.Goals.{In_ok-version}
 
-pub returns-in_default : goal.returns-in_default
-returns-in_default c = let why = sym (ap said c.in_default.is) ∙ c.measured-sizes.ensures in
-    let none = refused c.args.deck.now (length c.args.kinds.now) (length c.args.fields.now) why in
-    record { result_value = c.measured-sizes.ensures; kinds_after = kept kinds_taken c.args.kinds.now none; fields_after = kept fields_taken c.args.fields.now none }
+pub returns-in_err-version-clause-kinds_after : goal.returns-in_err-version-clause-kinds_after
+returns-in_err-version-clause-kinds_after c = kept kinds_taken c.args.kinds.now (refused c.args.deck.now (length c.args.kinds.now) (length c.args.fields.now) c.in_err-version.ensures)
+
+pub returns-in_err-version-clause-fields_after : goal.returns-in_err-version-clause-fields_after
+returns-in_err-version-clause-fields_after c = kept fields_taken c.args.fields.now (refused c.args.deck.now (length c.args.kinds.now) (length c.args.fields.now) c.in_err-version.ensures)
 
 -- what was measured
-told : (c : In-Cards) → pass (c.in-Cards.version, c.in-Cards.count, c.in-Cards.field-2) ≡ sizes_of (apart_of c.args.deck.now (length c.args.kinds.now) (length c.args.fields.now))
-told c = sym (ap said c.in-Cards.is) ∙ c.measured-sizes.ensures
-
-made : (c : In-Cards) → Taken c.args.deck.now (length c.args.kinds.now) (length c.args.fields.now) c.in-Cards.version c.in-Cards.count c.in-Cards.field-2
-made c = taken_apart c.args.deck.now (length c.args.kinds.now) (length c.args.fields.now) (told c)
+made : (c : In_ok-version) → Taken c.args.deck.now (length c.args.kinds.now) (length c.args.fields.now) c.in_ok-version.version c.in_ok-version.count c.in_ok-version.size
+made c = taken_apart c.args.deck.now (length c.args.kinds.now) (length c.args.fields.now) c.in_ok-version.ensures
 
 pub list_kinds-requires : goal.list_kinds-requires
-list_kinds-requires c = let t = made (goal.at.list_kinds-requires c).In-Cards in ((c.in-Cards.version, t.accepted), omega (arith, t.as_many, t.fits.places_enough))
+list_kinds-requires c = let t = made (goal.at.list_kinds-requires c).In_ok-version in ((c.in_ok-version.version, t.accepted), omega (arith, t.as_many, t.fits.places_enough))
 
 pub put_all-requires : goal.put_all-requires
-put_all-requires c = (made (goal.at.put_all-requires c).In-Cards).accepted
+put_all-requires c = ((made (goal.at.put_all-requires c).In_ok-version).accepted, omega arith)
 
-pub returns : goal.returns
-returns c = let t = made (goal.at.returns c).In-Cards in
-    let fits = t.fits in
-    let listed = c.list_kinds.ensures t.is fits.are in
-    let put = c.put_all.ensures t.is fits.are in
-    record { result_value = told (goal.at.returns c).In-Cards; kinds_after = filled kinds_taken t.taken listed (omega (arith, length_kinds t.is.cards, fits.places_enough)); fields_after = filled fields_taken t.taken put fits.room_enough }
+pub returns-clause-kinds_after : goal.returns-clause-kinds_after
+returns-clause-kinds_after c = let t = made (goal.at.returns-clause-kinds_after c).In_ok-version in
+    filled kinds_taken t.taken (c.list_kinds.ensures t.is t.fits.are) (omega (arith, length_kinds t.is.cards, t.fits.places_enough))
+
+pub returns-clause-fields_after : goal.returns-clause-fields_after
+returns-clause-fields_after c = let t = made (goal.at.returns-clause-fields_after c).In_ok-version in
+    let put = c.put_all.ensures t.is t.fits.are in
+    rw (← filled fields_taken t.taken (as_put _ (fields_taken t.is) put) t.fits.room_enough) (search (rules, pages, put))

@@ -1,14 +1,17 @@
 -- `arc::root_or_nan` meets its contract: what the root says, or NaN.
-use mathlib.Core.Path.{sym, ap, ◌∙◌}
-use lib.Ieee.{div, of_bits}
-use Rattle.root.specs.Said as root
+use mathlib.Core.Path.{◌≡◌, refl, ap, ◌∙◌}
+use lib.Ieee.{Float, nan, div, of_bits}
+use Rattle.std.specs.Prelude.{Result, Ok, Err}
+use Rattle.std.specs.Result.{result_unwrap_or}
+use Rattle.root.specs.declared.Reason.{Reason}
+use Rattle.root.specs.Said.{said}
 use Rattle.arc.specs.Arc.{or_nan, root_or_nan}
 use Rattle.arc.proofs.root_or_nan.Goals as goal
 
-pub returns-in-Root : goal.returns-in-Root
-unfolding root_or_nan
-returns-in-Root c = ap or_nan (sym (ap root.said c.in-Root.is) ∙ c.root.ensures)
+given : (a : Result Float Reason) → result_unwrap_or a nan ≡ or_nan (said a)
+given (Ok r) = refl
+given (Err why) = refl
 
-pub returns-in-Refused : goal.returns-in-Refused
+pub returns : goal.returns
 unfolding div of_bits root_or_nan
-returns-in-Refused c = ap or_nan (sym (ap root.said c.in-Refused.is) ∙ c.root.ensures)
+returns c = c.unwrap_or.ensures ∙ given c.root.result ∙ ap or_nan c.root.ensures

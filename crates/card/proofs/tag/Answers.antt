@@ -1,5 +1,5 @@
 -- `card::tag` meets its contract: absent in version 1, and in version 2 the two words that stand there.
-use mathlib.Core.Path.{refl, ◌∙◌}
+use mathlib.Core.Path.{refl}
 use native.Mathlib.Omega.{arith}
 use Rattle.card.specs.Fields.{tag_of}
 use Rattle.card.proofs.Sizes.{answer_most, tag_inside}
@@ -14,4 +14,4 @@ returns-in-One c = rw c.in-One.is refl
 
 pub returns-in-Two : goal.returns-in-Two
 unfolding tag_of
-returns-in-Two c = c.present.ensures ∙ rw (c.word.ensures, c.half.ensures, c.tag_at-at.ensures, c.in-Two.is) refl
+returns-in-Two c = rw (c.present.ensures, c.word.ensures, c.half.ensures, c.tag_at-at.ensures, c.in-Two.is) refl

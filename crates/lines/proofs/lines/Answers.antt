@@ -1,36 +1,30 @@
 -- `lines::lines` meets its contract: what is answered is the first block, and where there is little room the lines are handed over.
-use mathlib.Core.Path.{◌≡◌, sym, ap, ◌∙◌}
+use mathlib.Core.Path.{◌≡◌, ap, ◌∙◌}
 use mathlib.Core.List.{List}
-use Prim.Native.Nat.{ℕ, ◌≤◌}
+use Prim.Native.Nat.{ℕ, ◌≤◌, min}
 use native.Mathlib.Nat.{le_trans}
 use native.Mathlib.Omega.{arith}
 use lib.ListN.{length, take, length-take}
-use lib.Seq.{length-take-le}
+use Rattle.std.proofs.Common.{rules}
 use Rattle.pieces.specs.Pieces.{handed_in}
 use Rattle.pieces.proofs.Puts.{renamed, handed}
+use Rattle.pieces.proofs.Pages.{pages, given_back}
 use Rattle.line.specs.declared.Question.{Question}
 use Rattle.lines.specs.Lines.{lines_of, block_bytes, block_of, most_text}
 use Rattle.lines.proofs.Records.{first_block, text_most}
 use Rattle.lines.proofs.lines.Goals as goal
-use Rattle.lines.proofs.lines.Goals.{After-first-size}
+use Rattle.lines.proofs.lines.Goals.{After-min-size}
 
--- as many bytes are answered as are cut off, and no more than a block
-cut : (c : After-first-size) → c.first-size.result ≡ length (take c.first-size.result c.args.s.now)
-cut c = sym (length-take-le c.first-size.result c.args.s.now (omega (arith, c.first-size.ensures)))
-
-short : (c : After-first-size) → length (take c.first-size.result c.args.s.now) ≤ block_bytes c.args.asked
-short c = omega (arith, c.first-size.ensures, cut c)
-
--- their lines are the block's, for which there is room
-same_lines : (c : After-first-size) → lines_of c.args.asked (take c.first-size.result c.args.s.now) ≡ lines_of c.args.asked (block_of c.args.asked c.args.s.now)
-same_lines c = let args = c.args in ap (lines_of args.asked) (first_block (block_bytes args.asked) args.s.now c.first-size.ensures)
+-- the lines of what is answered are the block's, for which there is room
+same_lines : (c : After-min-size) → lines_of c.args.asked (take c.min-size.result c.args.s.now) ≡ lines_of c.args.asked (block_of c.args.asked c.args.s.now)
+same_lines c = let args = c.args in ap (lines_of args.asked) (first_block (block_bytes args.asked) args.s.now (c.min-size.ensures ∙ ap (λ (b : ℕ). min b (length args.s.now)) c.block.ensures))
 
 fits : (asked : Question) (s out : List ℕ) → most_text ≤ length out → length (lines_of asked (block_of asked s)) ≤ length out
 fits asked s out h = le_trans (text_most asked (block_of asked s) (rw (length-take (block_bytes asked) s) (omega arith))) h
 
 pub returns-then-out-lt-ROOM : goal.returns-then-out-lt-ROOM
 returns-then-out-lt-ROOM c =
-    let same = same_lines (goal.at.returns-then-out-lt-ROOM c).After-first-size in
+    let same = same_lines (goal.at.returns-then-out-lt-ROOM c).After-min-size in
     record {
       value = c.in_little_room.ensures.value ∙ ap length same;
       out_after = c.in_little_room.ensures.out_after ∙ ap (λ (l : List ℕ). handed_in l c.args.out.now) same;
@@ -39,14 +33,6 @@ returns-then-out-lt-ROOM c =
 pub returns : goal.returns
 returns c =
     let args = c.args in
-    let so = handed (renamed (same_lines (goal.at.returns c).After-first-size) c.write.ensures) (fits args.asked args.s.now args.out.now (omega arith)) in
+    let fits = fits args.asked args.s.now args.out.now (omega arith) in
+    let so = handed (renamed (same_lines (goal.at.returns c).After-min-size) (given_back _ _ c.write.ensures (search (rules, pages)))) fits in
     record { value = so.0; out_after = so.1 }
-
-pub slice_bounds-in_little_room-end : goal.slice_bounds-in_little_room-end
-slice_bounds-in_little_room-end c = cut (goal.at.slice_bounds-in_little_room-end c).After-first-size
-
-pub in_little_room-requires : goal.in_little_room-requires
-in_little_room-requires c = short (goal.at.in_little_room-requires c).After-first-size
-
-pub slice_bounds-write-end : goal.slice_bounds-write-end
-slice_bounds-write-end c = cut (goal.at.slice_bounds-write-end c).After-first-size

@@ -1,91 +1,68 @@
 -- `lines::write` meets its contract.
-use mathlib.Core.Path.{◌≡◌, refl, sym, ap, ◌∙◌}
-use mathlib.Core.List.{List, [], ◌∷◌, ◌++◌, append-nil, append_assoc}
-use Prim.Native.Nat.{ℕ, ◌+◌, ◌-◌, ◌≤◌, ◌<◌}
+use mathlib.Core.Path.{◌≡◌, refl, sym, ap, ap₂, ◌∙◌}
+use mathlib.Core.List.{List, [], ◌∷◌, ◌++◌}
+use Prim.Native.Nat.{ℕ, ◌+◌, ◌≤◌, ◌<◌, min}
+use native.Mathlib.Nat.{le_of_eq}
 use native.Mathlib.Omega.{arith}
-use lib.ListN.{length, take, drop, length-drop, drop_of_length-le}
-use lib.Seq.{drop-drop}
-use Rattle.pieces.specs.Pieces.{Put}
+use lib.ListN.{length, take, drop, length-append, drop_of_length-le}
+use lib.Seq.{take-append_seam, drop-append_seam}
+use Rattle.std.proofs.Common.{inl, inr, rules}
+use Rattle.std.proofs.lemmas.Bool.{cases_lt}
+use Rattle.std.specs.Slice.Iter.{chunks_size}
+use Rattle.pieces.specs.declared.Page.{Page}
+use Rattle.pieces.specs.Page.{written}
+use Rattle.pieces.proofs.InPieces.{InPieces, nothing_yet, one_on, all_there}
 use Rattle.text.specs.Text.{text}
-use Rattle.pieces.proofs.Puts.{puts, renamed, none, as_long, wrote}
 use Rattle.line.specs.declared.Question.{Question}
 use Rattle.line.specs.Line.{width_of, line_of}
 use Rattle.lines.specs.Lines.{left_over, lines_of}
 use Rattle.line.proofs.Widths.{width_least}
 use Rattle.lines.proofs.Records.{first_line, no_line}
-use Rattle.lines.proofs.write.Invariants.{Going}
 use Rattle.lines.proofs.write.Goals as goal
 
-nothing : 0 < 0 → ⊥
-nothing h = omega arith
+nothing : (asked : Question) (rest : List ℕ) → length rest ≤ 0 → lines_of asked rest ≡ []
+nothing asked rest h = rw (drop_of_length-le rest h) (no_line asked [] (omega (arith, width_least asked)))
 
-start : (asked : Question) (s page : List ℕ) → Going asked s page page 0 0
-start asked s page = record { done = []; written = none (omega arith); all = refl; within = omega arith }
+cut : (bytes : List ℕ) → 0 < length bytes → left_over bytes ≡ text "short\n"
+cut [] h = absurd (omega arith)
+cut (b ∷ bytes) h = refl
 
-turn : {asked : Question} {s page₀ page next : List ℕ} {at end last w : ℕ} → Going asked s page₀ page at end → w ≡ width_of asked → w ≤ length s - at → Put page end (line_of asked (take w (drop at s))) next last
-    → Going asked s page₀ next (at + w) last
-turn {asked} {s} {at = at} {w = w} g e h p =
-    let left : length (drop at s) ≡ length s - at = length-drop at s in
-    let one : lines_of asked (drop at s) ≡ line_of asked (take (width_of asked) (drop at s)) ++ lines_of asked (drop (width_of asked) (drop at s)) = first_line asked (drop at s) (omega (arith, left)) in
-    let next-line : lines_of asked (drop at s) ≡ line_of asked (take w (drop at s)) ++ lines_of asked (drop (at + w) s) =
-    one
-    ∙ ap (λ (k : ℕ). line_of asked (take k (drop at s)) ++ lines_of asked (drop k (drop at s))) (sym e)
-    ∙ ap (λ (l : List ℕ). line_of asked (take w (drop at s)) ++ lines_of asked l) (drop-drop w at s) in
-    record {
-      done = g.done ++ line_of asked (take w (drop at s));
-      written = puts g.written p;
-      all = g.all ∙ ap (λ (l : List ℕ). g.done ++ l) next-line ∙ sym (append_assoc g.done (line_of asked (take w (drop at s))) (lines_of asked (drop (at + w) s)));
-      within = omega (arith, g.within);
-    }
+-- a record that is cut off is all that is left
+last_one : (asked : Question) (rest part others : List ℕ) → rest ≡ part ++ others → length part ≡ min (width_of asked) (length rest) → 0 < length rest → length part < width_of asked
+    → lines_of asked rest ≡ text "short\n" ++ lines_of asked others
+last_one asked rest part others parts size some less =
+    let sum : length rest ≡ length part + length others = ap length parts ∙ length-append part others in
+    let gone : lines_of asked others ≡ [] = nothing asked others (omega arith) in
+    rw gone (no_line asked rest (omega arith) ∙ cut rest some)
 
--- what is left behind the last record
-cut_off : (bytes : List ℕ) → 0 < length bytes → left_over bytes ≡ text "short\n"
-cut_off [] h = absurd (nothing h)
-cut_off (b ∷ bytes) h = refl
+whole_one : (asked : Question) (rest part others : List ℕ) → rest ≡ part ++ others → length part ≡ min (width_of asked) (length rest) → width_of asked ≤ length part
+    → lines_of asked rest ≡ line_of asked part ++ lines_of asked others
+whole_one asked rest part others parts size long =
+    let w : width_of asked ≡ length part = omega arith in
+    first_line asked rest (omega arith)
+    ∙ ap (λ (n : ℕ). line_of asked (take n rest) ++ lines_of asked (drop n rest)) w
+    ∙ ap (λ (l : List ℕ). line_of asked (take (length part) l) ++ lines_of asked (drop (length part) l)) parts
+    ∙ ap₂ (λ (a b : List ℕ). line_of asked a ++ lines_of asked b) (take-append_seam part others) (drop-append_seam part others)
 
-over : {asked : Question} {s page₀ page next : List ℕ} {at end last w : ℕ} → Going asked s page₀ page at end → w ≡ width_of asked → length s - at < w → at < length s → Put page end (text "short\n") next last
-    → Put page₀ 0 (lines_of asked s) next last
-over {asked} {s} {at = at} g e h k p =
-    let left : length (drop at s) ≡ length s - at = length-drop at s in
-    let rest : lines_of asked (drop at s) ≡ text "short\n" = no_line asked (drop at s) (omega (arith, left)) ∙ cut_off (drop at s) (omega (arith, left)) in
-    renamed (sym (g.all ∙ ap (λ (l : List ℕ). g.done ++ l) rest)) (puts g.written p)
+turn : (asked : Question) {whole rest : List ℕ} {start page next : Page} (part others : List ℕ) → InPieces start whole page (lines_of asked rest) → rest ≡ part ++ others → length part ≡ min (width_of asked) (length rest) → 0 < length rest
+    → (length part < width_of asked → next ≡ written page (text "short\n")) → (width_of asked ≤ length part → next ≡ written page (line_of asked part)) → InPieces start whole next (lines_of asked others)
+turn asked {rest = rest} part others g parts size some cut_off whole =
+    elim (cases_lt (length part) (width_of asked)) [
+      | inl less ↦ one_on (text "short\n") g (sym (last_one asked rest part others parts size some less)) (cut_off less)
+      | inr long ↦ one_on (line_of asked part) g (sym (whole_one asked rest part others parts size long)) (whole long)
+    ]
 
-whole : {asked : Question} {s page₀ page : List ℕ} {at end w : ℕ} → Going asked s page₀ page at end → w ≡ width_of asked → length s ≤ at → Put page₀ 0 (lines_of asked s) page end
-whole {asked} {s} {at = at} g e h =
-    let gone : drop at s ≡ [] = drop_of_length-le s h in
-    let rest : lines_of asked (drop at s) ≡ [] = ap (lines_of asked) gone ∙ no_line asked [] (omega (arith, width_least asked)) in
-    renamed (sym (g.all ∙ ap (λ (l : List ℕ). g.done ++ l) rest ∙ append-nil g.done)) g.written
+pub loop-part-init : goal.loop-part-init
+loop-part-init c =
+    let made = c.into_iter-part-iterator.ensures.into_iter_gives in
+    let size = ap chunks_size made ∙ c.chunks-part-items.ensures.size ∙ c.width.ensures in
+    (omega (arith, size, width_least c.args.asked), tt, size, rw made (rw c.chunks-part-items.ensures.rest (nothing_yet (lines_of c.args.asked c.args.s.now) c.requires)))
 
-pub loop-at-init : goal.loop-at-init
-loop-at-init c = start c.args.asked c.args.s.now c.args.page.now
-
-pub overflow_sub-s : goal.overflow_sub-s
-overflow_sub-s c = c.loop-at.invariant.within
-
-pub overflow_add-next : goal.overflow_add-next
-overflow_add-next c = omega (arith, c.loop-at.invariant.within)
-
-pub slice_bounds-line-end : goal.slice_bounds-line-end
-slice_bounds-line-end c = omega (arith, c.loop-at.invariant.within)
-
-pub loop-at-smaller : goal.loop-at-smaller
-loop-at-smaller c = omega (arith, c.width-size.ensures, width_least c.args.asked)
-
-pub loop-at-preserved : goal.loop-at-preserved
-loop-at-preserved c = let at : ℕ = c.loop-at.at in
-    let size : ℕ = c.width-size.result in
-    let long : at + size - at ≡ size = omega arith in
-    let named = ap (λ (k : ℕ). line_of c.args.asked (take k (drop at c.args.s.now))) long in
-    turn c.loop-at.invariant c.width-size.ensures (omega arith) (renamed named (wrote (c.line-end.ensures.value, c.line-end.ensures.out_after)))
-
-pub shape_of-page-then-at-s : goal.shape_of-page-then-at-s
-shape_of-page-then-at-s c = as_long (wrote (c.put.ensures.value, c.put.ensures.out_after)) ∙ as_long c.loop-at.invariant.written
-
-pub returns-then-at-s : goal.returns-then-at-s
-returns-then-at-s c = over c.loop-at.invariant c.width-size.ensures (omega arith) (omega arith) (wrote (c.put.ensures.value, c.put.ensures.out_after))
-
-pub shape_of-page : goal.shape_of-page
-shape_of-page c = as_long c.loop-at.invariant.written
+pub loop-part-preserved : goal.loop-part-preserved
+loop-part-preserved c =
+    let steps = c.in-Some.ensures.steps in
+    let size = c.loop-part.invariant.2 in
+    (search rules, tt, steps.0 ∙ size, turn c.args.asked c.in-Some.part.now _ c.loop-part.invariant.3 steps.1.0 (rw size at steps.1.1) steps.1.2 c.put.ensures.cut_off c.put.ensures.whole)
 
 pub returns : goal.returns
-returns c = whole c.loop-at.invariant c.width-size.ensures (omega arith)
+returns c = all_there c.loop-part.invariant.3 (nothing c.args.asked _ (le_of_eq c.in-None.ensures.steps.1.0))

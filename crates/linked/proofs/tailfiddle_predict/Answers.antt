@@ -1,21 +1,16 @@
--- `linked::tailfiddle_predict` meets its contract: each case of Kepler's answer is one case of the definitions.
-use mathlib.Core.Path.{◌≡◌, refl, sym, ap, ◌∙◌}
+-- `linked::tailfiddle_predict` meets its contract: what Kepler gave is what the definition says, solved or refused.
+use mathlib.Core.Path.{refl, sym, ap, ◌∙◌}
 use Rattle.conic.specs.Said as conic
-use Rattle.card.specs.Fields.{problem_of}
 use Rattle.kepler.specs.Kepler.{kepler_of}
+use Rattle.linked.specs.Linked.{outcome_number, state_sum, sum_after}
+use Rattle.linked.proofs.Refused.{left}
 use Rattle.linked.proofs.tailfiddle_predict.Goals as goal
-use Rattle.linked.proofs.tailfiddle_predict.Goals.{After-kepler}
 
--- what Kepler gave is what the definition says
-answered : (c : After-kepler) → kepler_of (problem_of c.args.problem.now) ≡ conic.said c.kepler.result
-answered c = sym (c.kepler.ensures ∙ ap kepler_of c.problem.ensures)
-
-pub returns-in-Solved : goal.returns-in-Solved
-returns-in-Solved c = let e = answered (goal.at.returns-in-Solved c).After-kepler ∙ ap conic.said c.in-Solved.is in
+pub returns-in-Ok : goal.returns-in-Ok
+returns-in-Ok c = let e = sym (c.in-Ok.ensures ∙ ap kepler_of c.problem.ensures) in
     record { value = rw e refl; sum_after = c.state_sum.ensures ∙ rw e refl }
 
-pub returns-in-Refused : goal.returns-in-Refused
-returns-in-Refused c = let e = answered (goal.at.returns-in-Refused c).After-kepler ∙ ap conic.said c.in-Refused.is in record { value = c.number.ensures ∙ rw e refl; sum_after = rw e refl }
-
-pub returns-in-RefusedWithBracket : goal.returns-in-RefusedWithBracket
-returns-in-RefusedWithBracket c = let e = answered (goal.at.returns-in-RefusedWithBracket c).After-kepler ∙ ap conic.said c.in-RefusedWithBracket.is in record { value = c.number-in-RefusedWithBracket.ensures ∙ rw e refl; sum_after = rw e refl }
+pub returns-in-Err : goal.returns-in-Err
+returns-in-Err c = let e = c.in-Err.ensures ∙ ap kepler_of c.problem.ensures in
+    let l = left conic.reason_number c.in-Err.refusal in
+    record { value = c.number.ensures ∙ sym l.number ∙ ap outcome_number e; sum_after = sym (l.lent state_sum _) ∙ ap (λ a. sum_after state_sum a c.args.sum.now) e }

@@ -5,7 +5,7 @@ use Prim.Native.Nat.{ℕ, ◌-◌, ◌≤◌}
 use native.Mathlib.Omega.{arith}
 use lib.ListN.{length, take, drop, length-drop}
 use lib.Seq.{length-take-le}
-use Rattle.pieces.proofs.Puts.{renamed}
+use Rattle.pieces.specs.Page.{written}
 use Rattle.conic.specs.Said as conic
 use Rattle.version.specs.Version.{tag_size, largest_tag}
 use Rattle.version.proofs.Sizes.{tag_most}
@@ -18,7 +18,7 @@ use Rattle.predicted.proofs.put.Goals.{Else-problems-size}
 
 pub returns-then-problems-size : goal.returns-then-problems-size
 returns-then-problems-size c = let from = c.args in
-    let both = not_placed from.version from.problems.now from.out.now from.at (omega (arith, c.given_size-size.ensures)) in record { result_value = both.0; out_after = both.1 }
+    let both = not_placed from.version from.problems.now from.page.now (omega (arith, c.given_size-size.ensures)) in record { result_value = both.0; page_after = both.1 }
 
 -- what is given has the problem's bytes
 sized : (c : Else-problems-size) → length (take problem_size c.args.problems.now) ≡ problem_size
@@ -55,7 +55,7 @@ returns c = let from = c.args in
     ap₂ (λ (k : Kind) (given : List ℕ). body_of k given (take (c.given_size-size.result - problem_size) (drop problem_size problems) ++ answer_for said)) kind_is c.answered-made.ensures.result_value
     ∙ ap₂ (λ (n : ℕ) (s : conic.Said). (card_for (take problem_size problems) (take n (drop problem_size problems)) s).body) (tag_is (goal.at.returns c).Else-problems-size) kepler-said in
     let card-is = first_made from.version problems (enough (goal.at.returns c).Else-problems-size) in
-    let both = one_placed from.version problems from.out.now from.at (enough (goal.at.returns c).Else-problems-size) (kind_is ∙ ap kind_for kepler-said ∙ ap (λ (card : Card). card.kind) (sym card-is)) (renamed (body_is ∙ ap (λ (card : Card). card.body) (sym card-is)) c.put_body.ensures) in record { result_value = both.0; out_after = both.1 }
+    let both = one_placed from.version problems (enough (goal.at.returns c).Else-problems-size) from.page.now (kind_is ∙ ap kind_for kepler-said ∙ ap (λ (card : Card). card.kind) (sym card-is)) (c.put_body.ensures ∙ ap (written from.page.now) (body_is ∙ ap (λ (card : Card). card.body) (sym card-is))) in record { result_value = both.0; page_after = both.1 }
 
 pub slice_bounds-put_body-count : goal.slice_bounds-put_body-count
 slice_bounds-put_body-count c = omega (arith, c.given_size-size.ensures)

@@ -6,7 +6,6 @@ use native.Mathlib.Numerals.{add-one}
 use native.Mathlib.Omega.{arith}
 use lib.ListN.{length, drop, get_or, drop_of_length-le}
 use lib.Seq.{drop-cons}
-use Rattle.pieces.proofs.Puts.{wrote}
 use Rattle.pieces.proofs.InPieces.{nothing_yet, one_on, all_there}
 use Rattle.spelled.specs.Spelled.{bytes_of}
 use Rattle.words.specs.Words.{words_bytes}
@@ -22,14 +21,11 @@ none_left : (list : List ℕ) (i : ℕ) → length list ≤ i → words_bytes (d
 unfolding words_bytes
 none_left list i h = ap words_bytes (drop_of_length-le list h)
 
-pub loop-i-init : goal.loop-i-init
-loop-i-init c = nothing_yet (words_bytes c.args.list.now) c.requires
+pub loop-word-init : goal.loop-word-init
+loop-word-init c = nothing_yet (words_bytes c.args.list.now) c.requires
 
-pub loop-i-preserved : goal.loop-i-preserved
-loop-i-preserved c = one_on c.loop-i.invariant (first c.args.list.now c.loop-i.i (omega arith)) (wrote (c.put_word-end.ensures.value, c.put_word-end.ensures.out_after))
+pub loop-word-preserved : goal.loop-word-preserved
+loop-word-preserved c = one_on _ c.loop-word.invariant (first c.args.list.now c.loop-word.word-index (omega arith)) c.put_word.ensures
 
 pub returns : goal.returns
-returns c = all_there c.loop-i.invariant (none_left c.args.list.now c.loop-i.i (omega arith))
-
-pub shape_of-out : goal.shape_of-out
-shape_of-out c = c.loop-i.invariant.as_long
+returns c = all_there c.loop-word.invariant (none_left c.args.list.now c.loop-word.word-index (omega arith))

@@ -3,10 +3,12 @@ use mathlib.Core.Path.{◌≡◌, refl, sym}
 use mathlib.Core.List.{List}
 use Prim.Native.Nat.{ℕ, ◌/◌, ◌≤◌}
 use native.Mathlib.Omega.{arith}
-use lib.ListN.{length, take}
+use lib.ListN.{length, take, length-replicate}
 use lib.Seq.{length-take-le}
 use Rattle.pieces.specs.Pieces.{Put}
-use Rattle.pieces.proofs.Puts.{renamed, wrote, inside, front}
+use Rattle.std.proofs.Common.{rules}
+use Rattle.pieces.proofs.Puts.{renamed, front}
+use Rattle.pieces.proofs.Pages.{pages, as_put, within}
 use Rattle.version.specs.declared.Version.{Version}
 use Rattle.card.specs.Fields.{given_size}
 use Rattle.contents.specs.Contents.{most_cards, largest_deck}
@@ -16,6 +18,7 @@ use Rattle.layout.proofs.Writing.{no_room_writes, deck_writes}
 use Rattle.problems.specs.Problems.{deck_from}
 use Rattle.problems.proofs.Made.{as_many, sized}
 use Rattle.problems.proofs.in_little_room.Goals as goal
+use Rattle.problems.proofs.in_little_room.Goals.{After-fill}
 
 -- the deck at the front of a page that has room for any
 deck_there : (v : Version) (problems : List ℕ) {page after : List ℕ} {end : ℕ} → length problems / given_size v ≤ most_cards → largest_deck ≡ length page
@@ -24,16 +27,17 @@ deck_there v problems h room p =
     let n : ℕ = length problems / given_size v in
     front p (omega (arith, deck_most (deck_from v problems) (omega (arith, as_many v n problems)) (sized v problems), room))
 
-pub returns-then-buffer-end : goal.returns-then-buffer-end
-returns-then-buffer-end c = let d = deck_there c.args.version c.args.problems.now c.requires c.blank-page.ensures c.fill-end.ensures in
-    let both = no_room_writes c.args.buffer.now refl (omega (arith, d.0)) in record { result_value = both.0; buffer_after = both.1 }
+there : (c : After-fill) → (c.fill.new.page.at ≡ length (deck_of (deck_from c.args.version c.args.problems.now))) × (take c.fill.new.page.at c.fill.new.page.bytes.now ≡ deck_of (deck_from c.args.version c.args.problems.now))
+there c = deck_there c.args.version c.args.problems.now c.requires (sym (length-replicate {A = ℕ} largest_deck 0)) (as_put _ (deck_of (deck_from c.args.version c.args.problems.now)) c.fill.ensures)
 
-pub slice_bounds-page-end : goal.slice_bounds-page-end
-slice_bounds-page-end c = inside c.fill-end.ensures
+pub returns-then-buffer-end : goal.returns-then-buffer-end
+returns-then-buffer-end c = let both = no_room_writes c.args.buffer.now refl (omega (arith, (there (goal.at.returns-then-buffer-end c).After-fill).0)) in record { result_value = both.0; buffer_after = both.1 }
 
 pub slice_bounds-put-end : goal.slice_bounds-put-end
-slice_bounds-put-end c = sym (length-take-le _ _ (inside c.fill-end.ensures))
+slice_bounds-put-end c = sym (length-take-le _ _ (within _ _ c.fill.ensures refl))
 
 pub returns : goal.returns
-returns c = let d = deck_there c.args.version c.args.problems.now c.requires c.blank-page.ensures c.fill-end.ensures in
-    let both = deck_writes refl (omega (arith, d.0)) (renamed d.1 (wrote (c.put.ensures.value, c.put.ensures.out_after))) in record { result_value = both.0; buffer_after = both.1 }
+returns c = let d = there (goal.at.returns c).After-fill in
+    let put = renamed d.1 (as_put _ _ c.put.ensures) in
+    let both = deck_writes refl (omega (arith, d.0)) put in
+    record { result_value = both.0; buffer_after = rw (← both.1) (search (rules, pages)) }

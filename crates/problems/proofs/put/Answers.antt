@@ -1,9 +1,11 @@
 -- `problems::put` meets its contract: what is refused is one row of the definition, and else the deck is written into the buffer itself, where
 -- that has room for as many of the largest cards, or by way of a page.
-use mathlib.Core.Path.{◌≡◌, sym, ap, ◌∙◌}
+use mathlib.Core.Path.{◌≡◌, refl, sym, ap, ◌∙◌}
 use Prim.Native.Nat.{ℕ, ◌/◌, ◌%◌, ◌+◌, ◌*◌, ◌≤◌}
 use native.Mathlib.Omega.{arith}
 use lib.ListN.{length}
+use Rattle.std.proofs.Common.{rules}
+use Rattle.pieces.proofs.Pages.{pages, as_put}
 use Rattle.rows.specs.Rows.{pass}
 use Rattle.card.specs.Fields.{largest_body, given_size}
 use Rattle.contents.specs.Contents.{header_size, entry_size, most_cards}
@@ -40,7 +42,7 @@ pub in_little_room-requires : goal.in_little_room-requires
 in_little_room-requires c = few (goal.at.in_little_room-requires c).Else-problems-size-ne0
 
 pub fill-requires : goal.fill-requires
-fill-requires c = (few (goal.at.fill-requires c).Else-problems-size-ne0, omega (arith, count_is (goal.at.fill-requires c).After-given_size-size, c.if-buffer-most.false))
+fill-requires c = (few (goal.at.fill-requires c).Else-problems-size-ne0, (refl, omega (arith, count_is (goal.at.fill-requires c).After-given_size-size, c.if-buffer-most.false)))
 
 pub returns-then-buffer-most : goal.returns-then-buffer-most
 returns-then-buffer-most c = let from = c.args in
@@ -54,7 +56,9 @@ returns c = let from = c.args in
     let n : ℕ = length from.problems.now / given_size from.version in
     let room : header_size + n * (entry_size + largest_body) ≤ length from.buffer.now = omega (arith, count_is (goal.at.returns c).After-given_size-size, c.if-buffer-most.false) in
     let fits : length (deck_of d) ≤ length from.buffer.now = omega (arith, deck_within d (sized from.version from.problems.now), as_many from.version n from.problems.now, room) in
-    let both = deck_writes (whole (goal.at.returns c).Else-problems-size-ne0) fits c.fill.ensures in record { result_value = both.0; buffer_after = both.1 }
+    let put = c.fill.ensures in
+    let both = deck_writes (whole (goal.at.returns c).Else-problems-size-ne0) fits (as_put _ (deck_of d) put) in
+    record { result_value = both.0; buffer_after = rw (← both.1) (search (rules, pages, put)) }
 
 pub nonzero_div-count : goal.nonzero_div-count
 nonzero_div-count c = omega (arith, c.given_size-size.ensures)

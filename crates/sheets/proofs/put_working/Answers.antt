@@ -1,7 +1,9 @@
 -- `sheets::put_working` meets its contract: what leads up to the root stands before its line.
-use Rattle.pieces.proofs.Puts.{puts, renamed, wrote, both}
+use mathlib.Core.Path.{ap}
+use Rattle.pieces.specs.Page.{written}
+use Rattle.pieces.proofs.Pages.{two}
 use Rattle.sheets.proofs.Lines.{working_is}
 use Rattle.sheets.proofs.put_working.Goals as goal
 
 pub returns : goal.returns
-returns c = let both = both (renamed (working_is c.args.x c.sheet_after.ensures c.root.ensures) (puts c.leading_up-end.ensures (wrote (c.put_root.ensures.value, c.put_root.ensures.out_after)))) in record { value = both.0; out_after = both.1 }
+returns c = rw (c.put_root.ensures, c.leading_up.ensures, two) (ap (written c.args.page.now) (working_is c.args.x c.sheet_after.ensures c.root.ensures))

@@ -1,35 +1,22 @@
--- `sheets::turns` meets its contract: the lines of the first n turns stand behind what was there.
-use native.Mathlib.Omega.{arith}
+-- `sheets::turns` meets its contract: the lines of the first n turns are written.
+use mathlib.Core.Path.{ap, ◌∙◌}
 use lib.Ieee.{binary64}
 use Rattle.exact.specs.Numbers.{steps}
-use Rattle.pieces.proofs.Puts.{puts, inside, wrote}
+use Rattle.pieces.specs.Page.{written}
+use Rattle.pieces.proofs.Pages.{two}
 use Rattle.root.specs.Paper.{whole_of}
-use Rattle.sheets.proofs.Lines.{no_turns, one_more_turn, all_turns}
+use Rattle.sheets.specs.Sheets.{turn_lines}
+use Rattle.sheets.proofs.Lines.{one_more_turn, all_turns}
 use Rattle.sheets.proofs.turns.Goals as goal
 
 pub loop-n-init : goal.loop-n-init
-loop-n-init c = (omega arith, no_turns (whole_of (steps binary64 c.args.x)) (inside (wrote (c.put-end.ensures.value, c.put-end.ensures.out_after))))
-
-pub sheet_of-requires : goal.sheet_of-requires
-sheet_of-requires c = (c.loop-n.invariant.0, c.requires)
-
-pub overflow_add-n-in-loop-n : goal.overflow_add-n-in-loop-n
-overflow_add-n-in-loop-n c = omega (arith, c.loop-n.invariant.0)
-
-pub sheet_of-requires-in-loop-n : goal.sheet_of-requires-in-loop-n
-sheet_of-requires-in-loop-n c = (omega arith, c.requires)
-
-pub turn-end-requires : goal.turn-end-requires
-turn-end-requires c = c.sheet_of.ensures.0
-
-pub overflow_add-n : goal.overflow_add-n
-overflow_add-n c = omega (arith, c.loop-n.invariant.0)
-
-pub loop-n-smaller : goal.loop-n-smaller
-loop-n-smaller c = omega (arith, c.loop-n.invariant.0)
+unfolding turn_lines
+loop-n-init c = c.put.ensures
 
 pub loop-n-preserved : goal.loop-n-preserved
-loop-n-preserved c = (omega arith, one_more_turn (whole_of (steps binary64 c.args.x)) c.loop-n.n c.sheet_of.ensures.1 c.sheet_of-in-loop-n.ensures.1 c.loop-n.invariant.1 c.turn-end.ensures)
+loop-n-preserved c =
+    let v = whole_of (steps binary64 c.args.x) in
+    rw (c.turn.ensures, c.loop-n.invariant, two) (ap (written c.args.page.now) (one_more_turn v c.loop-n.n c.sheet_of.ensures.1 c.sheet_of-in-loop-n.ensures.1))
 
 pub returns : goal.returns
-returns c = puts (wrote (c.put-end.ensures.value, c.put-end.ensures.out_after)) (all_turns (whole_of (steps binary64 c.args.x)) c.loop-n.n c.loop-n.invariant.0 (omega arith) c.loop-n.invariant.1)
+returns c = c.loop-n.invariant ∙ ap (written c.args.page.now) (all_turns (whole_of (steps binary64 c.args.x)) c.loop-n.n c.loop-n.auto.n-end c.loop-n-test.false)

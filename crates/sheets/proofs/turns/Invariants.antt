@@ -1,14 +1,11 @@
--- What lasts over the turns of `sheets::turns`, and why they end.
-use Prim.Native.Nat.{◌-◌, ◌≤◌}
+-- What lasts over the turns of `sheets::turns`.
+use mathlib.Core.Path.{◌≡◌}
 use lib.Ieee.{binary64}
 use Rattle.exact.specs.Numbers.{steps}
-use Rattle.pieces.specs.Pieces.{Put}
+use Rattle.pieces.specs.Page.{written}
 use Rattle.root.specs.Paper.{whole_of}
 use Rattle.sheets.specs.Sheets.{turn_lines}
 use Rattle.sheets.proofs.turns.Given as goal
 
 abbrev pub invariant-loop-n : goal.invariant-loop-n
-invariant-loop-n l = (l.n ≤ 54) × Put l.initial.out l.initial.end (turn_lines (whole_of (steps binary64 l.x)) l.n) l.out l.end
-
-abbrev pub decreases-loop-n : goal.decreases-loop-n
-decreases-loop-n l = 54 - l.n
+invariant-loop-n l = l.page ≡ written l.fn.page (turn_lines (whole_of (steps binary64 l.x)) l.n)

@@ -1,6 +1,6 @@
 -- `text::worded` meets its contract. The invariant: the digits that are left to find, and those found, are the 16 of the word; the space stands.
 use mathlib.Core.Path.{◌≡◌, refl, sym, ap, ◌∙◌}
-use mathlib.Core.List.{List, [], ◌∷◌, ◌++◌, append-nil}
+use mathlib.Core.List.{List, [], ◌∷◌, ◌++◌}
 use Prim.Native.Nat.{ℕ, suc, ◌-◌, ◌/◌, ◌%◌, ◌≤◌, ◌<◌}
 use native.Mathlib.Omega.{arith}
 use lib.ListN.{drop, set, length-set, take-append-drop}
@@ -40,17 +40,8 @@ finished {w} {left} {rest} {digits} p h =
     let rest-is : hex 16 w ≡ drop 1 digits = p.all ∙ ap (λ (k : ℕ). hex (k - 1) rest ++ drop k digits) one ∙ ap (λ (l : List ℕ). l ++ drop 1 digits) (no_digit rest) in
     sym (take-append-drop 1 digits) ∙ ap (λ (l : List ℕ). l ++ drop 1 digits) p.spaced ∙ ap (λ (l : List ℕ). 32 ∷ l) (sym rest-is)
 
-pub loop-left-init : goal.loop-left-init
-loop-left-init c = record { long = refl; least = omega arith; most = omega arith; spaced = refl; all = sym (append-nil (hex 16 c.args.w)) }
-
-pub digit-requires : goal.digit-requires
-digit-requires c = omega arith
-
-pub bounds-digits-left : goal.bounds-digits-left
-bounds-digits-left c = omega (arith, c.loop-left.invariant.most)
-
-pub loop-left-preserved : goal.loop-left-preserved
-loop-left-preserved c = turn c.loop-left.invariant (omega arith) c.digit.ensures
+pub loop-place-preserved : goal.loop-place-preserved
+loop-place-preserved c = turn c.loop-place.invariant c.loop-place-test.true c.digit.ensures
 
 pub returns : goal.returns
-returns c = finished c.loop-left.invariant (omega arith)
+returns c = finished c.loop-place.invariant c.loop-place-test.false

@@ -1,4 +1,4 @@
--- What lasts over the turns of `text::worded`, and why they end.
+-- What lasts over the turns of `text::worded`.
 use mathlib.Core.Path.{◌≡◌}
 use mathlib.Core.List.{List, [], ◌∷◌, ◌++◌}
 use Prim.Native.Nat.{ℕ, ◌-◌, ◌≤◌}
@@ -13,8 +13,5 @@ pub record Found (w : ℕ) (digits : List ℕ) (left rest : ℕ) : Type 0 where
   pub spaced : take 1 digits ≡ 32 ∷ []
   pub all : hex 16 w ≡ hex (left - 1) rest ++ drop left digits
 
-abbrev pub invariant-loop-left : goal.invariant-loop-left
-invariant-loop-left l = Found l.w l.digits l.left l.rest
-
-abbrev pub decreases-loop-left : goal.decreases-loop-left
-decreases-loop-left l = l.left
+abbrev pub invariant-loop-place : goal.invariant-loop-place
+invariant-loop-place l = Found l.w l.digits l.place l.rest

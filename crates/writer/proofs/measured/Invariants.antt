@@ -1,11 +1,6 @@
--- What lasts over the turns of `writer::measured`, and why they end.
-use Prim.Native.Nat.{◌-◌}
-use lib.ListN.{length}
+-- What lasts over the turns of `writer::measured`.
 use Rattle.writer.proofs.Measuring.{Measuring}
 use Rattle.writer.proofs.measured.Given as goal
 
-abbrev pub invariant-loop-i : goal.invariant-loop-i
-invariant-loop-i l = Measuring l.version l.kinds l.fields l.i l.at l.end
-
-abbrev pub decreases-loop-i : goal.decreases-loop-i
-decreases-loop-i l = length l.kinds - l.i
+abbrev pub invariant-loop-number : goal.invariant-loop-number
+invariant-loop-number l = Measuring l.version l.kinds l.fields l.number-index l.at l.end

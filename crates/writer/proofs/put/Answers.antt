@@ -1,20 +1,21 @@
 -- `writer::put` meets its contract: each return is one way that writing goes.
-use mathlib.Core.Path.{◌≡◌, sym, ap, subst, ◌∙◌}
+use mathlib.Core.Path.{◌≡◌, sym, subst, ◌∙◌}
 use mathlib.Core.List.{List}
 use Prim.Native.Nat.{ℕ}
 use native.Mathlib.Omega.{arith}
 use lib.ListN.{length}
+use Rattle.std.proofs.Common.{rules}
+use Rattle.pieces.proofs.Pages.{pages, as_put}
 use Rattle.rows.specs.Rows.{pass}
 use Rattle.rows.proofs.Laws.{row_refused, rows_passed, pass_once}
 use Rattle.version.specs.declared.Version.{Version}
 use Rattle.contents.specs.Contents.{Deck, Passes}
 use Rattle.layout.specs.Layout.{deck_of}
 use Rattle.layout.specs.Packed.{packed_deck}
-use Rattle.layout.specs.Written.{said}
+use Rattle.layout.proofs.Refusals.{passed_on}
 use Rattle.layout.proofs.Writing.{too_many, packed_means, refused_writes, no_room_writes, deck_writes}
 use Rattle.writer.proofs.Measuring.{length_of}
 use Rattle.writer.proofs.put.Goals as goal
-use Rattle.writer.proofs.put.Goals.{In-Deck}
 
 -- what was measured
 record Measured (v : Version) (kinds fields : List ℕ) (size : ℕ) : Type 0 where
@@ -30,23 +31,19 @@ passed v kinds fields e =
 pub returns-then-kinds-gt-MOST_CARDS : goal.returns-then-kinds-gt-MOST_CARDS
 returns-then-kinds-gt-MOST_CARDS c = let both = refused_writes c.args.buffer.now (too_many c.args.version c.args.kinds.now c.args.fields.now (omega arith)) in record { result_value = both.0; buffer_after = both.1 }
 
-pub returns-in_default : goal.returns-in_default
-returns-in_default c = let told = ap said c.in_default.is in
-    let r = row_refused (packed_deck c.args.version c.args.kinds.now c.args.fields.now) (λ (d : Deck). length (deck_of d)) (sym (sym told ∙ c.measured-made.ensures)) in
-    let w = refused_writes c.args.buffer.now r in
-    record { result_value = told ∙ w.0; buffer_after = w.1 }
-
--- the length that was measured
-made : (c : In-Deck) → Measured c.args.version c.args.kinds.now c.args.fields.now c.in-Deck.size
-made c = passed c.args.version c.args.kinds.now c.args.fields.now (sym (ap said c.in-Deck.is) ∙ c.measured-made.ensures)
+pub returns-in_err-size : goal.returns-in_err-size
+returns-in_err-size c = let both = refused_writes c.args.buffer.now (row_refused (packed_deck c.args.version c.args.kinds.now c.args.fields.now) (λ (d : Deck). length (deck_of d)) (sym c.in_err-size.ensures)) in
+    record { result_value = passed_on c.from_residual.result _ c.from_residual.ensures.1 ∙ both.0; buffer_after = both.1 }
 
 pub returns-then-buffer-size : goal.returns-then-buffer-size
-returns-then-buffer-size c = let m = made (goal.at.returns-then-buffer-size c).In-Deck in let both = no_room_writes c.args.buffer.now m.packed (omega (arith, m.long)) in record { result_value = both.0; buffer_after = both.1 }
+returns-then-buffer-size c = let m = passed c.args.version c.args.kinds.now c.args.fields.now c.in_ok-size.ensures in let both = no_room_writes c.args.buffer.now m.packed (omega (arith, m.long)) in record { result_value = both.0; buffer_after = both.1 }
 
 pub fill-requires : goal.fill-requires
-fill-requires c = let m = made (goal.at.fill-requires c).In-Deck in
-    let from = c.args in
-    (omega arith, subst Passes (sym (packed_means from.version from.kinds.now from.fields.now m.packed).2) tt)
+fill-requires c = let m = passed c.args.version c.args.kinds.now c.args.fields.now c.in_ok-size.ensures in
+    (omega arith, subst Passes (sym (packed_means c.args.version c.args.kinds.now c.args.fields.now m.packed).2) tt)
 
 pub returns : goal.returns
-returns c = let m = made (goal.at.returns c).In-Deck in let both = deck_writes m.packed (omega (arith, m.long)) (c.fill.ensures m.deck m.packed) in record { result_value = both.0; buffer_after = both.1 }
+returns c = let m = passed c.args.version c.args.kinds.now c.args.fields.now c.in_ok-size.ensures in
+    let put = c.fill.ensures m.deck m.packed in
+    let both = deck_writes m.packed (omega (arith, m.long)) (as_put _ (deck_of m.deck) put) in
+    record { result_value = both.0; buffer_after = rw (← both.1) (search (rules, pages, put)) }

@@ -11,7 +11,7 @@ use Rattle.root.proofs.digits.sheet_of.Goals as goal
 
 pub returns : goal.returns
 returns c = let form = c.form_of in
-    let left : c.worked.result.left ≡ 54 - min c.args.turns 54 = omega (arith, c.worked.ensures.0, c.left_after.ensures) in
+    let left : c.worked.result.left ≡ 54 - min c.args.turns 54 = omega (arith, c.worked.ensures.0, c.saturating_sub.ensures) in
     let v = whole_of (steps binary64 (of_bits binary64 c.args.w)) in
     let p : OnPaper v c.worked.result = rw (← whole_is _ form.result.v form.result.h form.ensures) c.worked.ensures.1 in
     one_sheet c.worked.result (after_turns v (min c.args.turns 54)) p (after_holds v (min c.args.turns 54) p.room (omega arith)) (left ∙ sym (left_after v (min c.args.turns 54)))

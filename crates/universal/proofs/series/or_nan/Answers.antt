@@ -1,13 +1,16 @@
--- `series::or_nan` meets its contract: the table worked, where z is in the range as the test found it, or NaN.
-use mathlib.Core.Path.{refl, sym, ◌∙◌}
-use lib.Ieee.{div, of_bits}
-use Rattle.rows.specs.Rows.{must}
+-- `series::or_nan` meets its contract: the table worked, where z is in the range, or NaN.
+use mathlib.Core.Path.{◌≡◌, refl, ap, ◌∙◌}
+use lib.Ieee.{Float, nan, div, of_bits}
+use Rattle.std.specs.Prelude.{Option, Some, None}
+use Rattle.std.specs.Option.{unwrap_or}
+use Rattle.rows.specs.Rows.{stated}
+use Rattle.universal.specs.Series.{out_of_range, sum_or_nan}
 use Rattle.universal.proofs.series.or_nan.Goals as goal
 
-pub returns-then-in_range : goal.returns-then-in_range
-unfolding must
-returns-then-in_range c = rw (sym c.in_range.ensures ∙ c.if-in_range.true, c.horner-sum.ensures) refl
+in_place : (a : Option Float) → unwrap_or a nan ≡ sum_or_nan (stated out_of_range a)
+in_place (Some c) = refl
+in_place None = refl
 
-pub returns-else-in_range : goal.returns-else-in_range
-unfolding div of_bits must
-returns-else-in_range c = rw (sym c.in_range.ensures ∙ c.if-in_range.false) refl
+pub returns : goal.returns
+unfolding div of_bits
+returns c = c.unwrap_or.ensures ∙ in_place c.ranged.result ∙ ap sum_or_nan c.ranged.ensures

@@ -1,6 +1,0 @@
--- `tally::mean` meets its contract: the sum over the number of solved cards.
-use mathlib.Core.Path.{refl}
-use Rattle.deck.proofs.tally.mean.Goals as goal
-
-pub returns : goal.returns
-returns c = refl

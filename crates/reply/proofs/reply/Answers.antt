@@ -1,5 +1,0 @@
--- `reply::reply` meets its contract: the deck stands already, and a refusal is its line.
-use Rattle.reply.proofs.reply.Goals as goal
-
-pub returns-in-Refused : goal.returns-in-Refused
-returns-in-Refused c = rw (c.in-Refused.is, ← c.number.ensures) (record { value = c.refused.ensures.value; page_after = c.refused.ensures.page_after })
