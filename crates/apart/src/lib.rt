@@ -70,7 +70,7 @@ fn summed(deck: &[u8], version: Version, count: u32) -> usize
     sum
 }
 
-// The number of each kind, in the card's place.
+// The number of each kind, in the card's place, as `take` hands them out.
 fn list_kinds(deck: &[u8], count: u32, kinds: &mut [u32])
     requires { ((v : Version) × (counted_in deck.now ≡ pass (v, count))) × (count ≤ length kinds.old) }
     ensures { (d : Deck) → deck_in deck.now ≡ pass d → Put kinds.old 0 (kinds_taken d) kinds.new count }

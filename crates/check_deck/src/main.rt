@@ -20,7 +20,8 @@ fn main(rt: HostRuntime) {
     write(&mut rt.stdout(), &space[..got], &page[..end]);
 }
 
-// Reads as much of a deck as can change its listing.
+// Reads as much of a deck as can change its listing. A function of its own, here and in `write` below: its law
+// is this program's.
 fn read<R: Read>(input: &mut R, space: &mut [u8], most: usize) -> usize
     requires { (most ≡ read_of_a_deck) × (most ≤ length space.old) }
     ensures { IsPrefixLen result space.new }

@@ -49,6 +49,7 @@ pub fn same(answer: &[u8], place: Place, a: Vector) -> bool
         & (words::word(answer, at + 16) == exact::word(a.z))
 }
 
+// A match, and no trait: the definition goes by the place.
 fn start(place: Place) -> usize
     ensures { result ≡ place_at place }
 {

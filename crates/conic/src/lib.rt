@@ -22,7 +22,7 @@ pub struct State {
     pub v: Vector,
 }
 
-// A problem for Kepler.
+// A problem for Kepler, in the letters of its rules: a transfer has others, and a way (`arc`).
 #[derive(Clone, Copy)]
 pub struct Problem {
     pub mu: f64,

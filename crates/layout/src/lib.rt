@@ -33,7 +33,7 @@ pub fn put_contents(version: Version, kinds: &[u32], page: &mut Page)
     put_entries(version, kinds, page);
 }
 
-// An entry for each kind, up to the first number that names none.
+// An entry for each kind, a number as it was given, up to the first that names none.
 fn put_entries(version: Version, kinds: &[u32], page: &mut Page)
     requires { (length kinds.now ≤ most_cards) × (page.old.at ≤ length page.old.bytes.now) }
     ensures { page.new ≡ written page.old (entries_from version (entry_at (length kinds.now)) (named_in kinds.now)) }

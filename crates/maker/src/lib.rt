@@ -16,7 +16,7 @@ ghost use Rattle.maker.specs.Made.{asked_deck, deck_made, read_of};
 use ruling::Reason;
 use std::io::{Read, Write};
 
-// What a deck is made of.
+// What a deck is made of. The functions below match on it, and it is no trait: the definitions go by it.
 #[derive(Clone, Copy)]
 pub enum Asked {
     Problems,
@@ -50,7 +50,8 @@ fn enough(asked: Asked) -> usize
     }
 }
 
-// Reads as much as can change the reply.
+// Reads as much as can change the reply. A function of its own, here and in `write` below: its law is this
+// program's.
 fn read<R: Read>(input: &mut R, asked: Asked, space: &mut [u8], most: usize) -> usize
     requires { (most ≡ read_of asked) × (most ≤ length space.old) }
     ensures { IsPrefixLen result space.new }

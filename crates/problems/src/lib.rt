@@ -21,7 +21,7 @@ use ruling::Reason;
 use version::Version;
 
 // Writes a card for each of these problems, which have this form, as a deck of the version with this number
-// at the front of the buffer.
+// at the front of the buffer. Both numbers are as they were given: others than 1 and 2, 0 and 1 are refused.
 pub fn write(number: u32, form: u32, problems: &[u8], buffer: &mut [u8]) -> Result<usize, Reason>
     ensures result_value { checked reason_number result ≡ length_for (problem_deck number form problems.now) (length buffer.old) }
     ensures buffer_after { buffer.new ≡ buffer_after (problem_deck number form problems.now) buffer.old }
@@ -95,7 +95,7 @@ fn fill(version: Version, problems: &[u8], page: &mut Page)
     page.at = end;
 }
 
-// The kind of each problem's card, and its body.
+// The kind of each problem's card, a number as `layout::put_contents` takes it, and its body.
 fn answer(version: Version, problems: &[u8], kinds: &mut [u32], page: &mut Page)
     requires { (length problems.now / given_size version ≤ length kinds.old) × (page.old.at ≤ length page.old.bytes.now) }
     ensures kinds_after { Put kinds.old 0 (kinds_of (deck_from version problems.now).cards) kinds.new (length problems.now / given_size version) }

@@ -55,7 +55,7 @@ fn block<R: Read, W: Write>(
     taken & (got == size)
 }
 
-// Writes what is the lines of these records.
+// Writes what is the lines of these records. A function of its own: its law is that of records.
 fn write<W: Write>(output: &mut W, asked: Question, records: &[u8], made: &[u8]) -> bool
     requires { made.now ≡ lines_of asked records.now }
 {

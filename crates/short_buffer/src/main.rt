@@ -92,7 +92,7 @@ fn finish_all<W: Write>(output: &mut W, deck: &[u8]) {
     finish_in(output, 2, &[1u32; 257], &fields, 150);
 }
 
-// Writes finished cards without object and epoch.
+// Writes finished cards without object and epoch. Kinds are numbers: 0 is tried, which names none.
 fn finish_in<W: Write>(output: &mut W, number: u32, kinds: &[u32], fields: &[u8], room: usize)
     requires { room ≤ 162 }
 {

@@ -10,7 +10,7 @@ ghost use Rattle.spelled.specs.Spelled.{bytes_of};
 use pieces::Page;
 
 // Puts the k lowest bytes of w, eight at most, into a page, as far as it goes: at once where there is room for
-// all of them.
+// all of them. A number and how many of its bytes: there is no slice of them yet.
 pub fn put(page: &mut Page, w: u64, k: usize)
     ensures { page.new ≡ written page.old (bytes_of (min k 8) w) }
 {

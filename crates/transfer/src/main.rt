@@ -4,6 +4,7 @@
 
 use line::Question;
 
+// One line, as that of each program of its kind: a program is a crate.
 fn main(rt: HostRuntime) {
     records::list(&mut rt.stdin(), &mut rt.stdout(), Question::Transfer);
 }

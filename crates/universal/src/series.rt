@@ -9,7 +9,8 @@ const RANGE: f64 = 4.0;
 // The number of the refusal beyond it.
 const OUT_OF_RANGE: u32 = 60;
 
-// The binary64 numbers nearest 1/2!, 1/4!, .. 1/24!.
+// The binary64 numbers nearest 1/2!, 1/4!, .. 1/24!. Two tables, here and below: docs/RULES.md, The shape of each
+// place 6.
 const EVEN: [f64; 12] = [
     0.5,
     0.041666666666666664,

@@ -84,7 +84,7 @@ fn refused(question: &[u8], answer: &[u8]) -> Result<(), u32>
     Ok(())
 }
 
-// Whether the answer is a refusal that this number means.
+// Whether the answer is a refusal that this number means, which is as it was sent.
 fn refuses_as(outcome: Outcome, number: u32) -> bool
     ensures { result ≡ is_refused_as (conic.said outcome) number }
 {

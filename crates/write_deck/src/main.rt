@@ -5,6 +5,7 @@
 
 use maker::Asked;
 
+// One line, as that of each program of its kind: a program is a crate.
 fn main(rt: HostRuntime) {
     maker::make(&mut rt.stdin(), &mut rt.stdout(), Asked::Problems);
 }

@@ -20,7 +20,7 @@ use version::Version;
 
 // Writes the cards with these kinds and these fields, which have this form, one card's behind the other's
 // and without spares, as a deck of the version with this number at the front of the buffer. Kinds are numbers,
-// since one that names none is refused here, with 34.
+// here and below, since one that names none is refused, with 34; so are version and form, with 42.
 pub fn write(
     number: u32,
     form: u32,
