@@ -17,14 +17,17 @@ class Unread(Exception):
 
 
 class Function:
-    def __init__(self, name, head, requires, ensures, uses):
+    def __init__(self, name, head, requires, ensures, uses, named):
         self.name = name  # crate::module::name
+        self.named = named  # the types that the source names: name -> the crate that declares it
         self.requires = requires
         self.ensures = ensures  # the text of each clause, without its name
         self.uses = uses  # what `ghost use` brings: name -> (module, name there)
-        parameters, self.answers, self.bounds = head  # .. whether it has a result, and its parameters of type, if any
+        parameters, self.answers, self.bounds = head  # .. what it answers, or nothing, and its parameters of type, if any
         self.types = re.findall(r"(\w+): ", self.bounds or "")
         parameters = re.sub(r"&\s+", "&", parameters)
+        if re.search(r"(?<!: )&(?!self\b|mut self\b)", parameters):
+            raise Unread(f"{name} has a loan inside a parameter's type")
         self.parameters = re.findall(r"(\w+): ", parameters) + ["self"] * bool(re.match(r"(mut )?self\b", parameters))
         self.references = re.findall(r"(\w+): &", parameters)
         self.lent = re.findall(r"(\w+): &(?:'\w+\s+)?mut\b", parameters)  # those lent to be written
@@ -107,9 +110,29 @@ def function_at(text, start, prefix, uses):
     if not head or text[head.end()] != "(":
         raise Unread("a public function whose head is another")
     end = closing(text, head.end())
-    result = re.compile(r"\s*->\s*[^{\n]+").match(text, end)
-    parts = (text[head.end() + 1:end - 1].strip(), bool(result), head[2])
-    return Function(f"{prefix}::{head[1]}", parts, *clauses(text, result.end() if result else end), uses)
+    result = re.compile(r"\s*->\s*([^{\n]+)").match(text, end)
+    parts = (text[head.end() + 1:end - 1].strip(), result[1].strip() if result else "", head[2])
+    return Function(f"{prefix}::{head[1]}", parts, *clauses(text, result.end() if result else end), uses, declared_in(text, prefix))
+
+
+def declared_in(text, prefix):
+    """The types that a source names: its own, and those that a `use` brings, each with its crate."""
+    crate = prefix.split("::")[0]
+    found = {name: crate for name in re.findall(r"^(?:pub )?(?:struct|enum|type) (\w+)", text, re.M)}
+    for path, several, one in re.findall(r"^use (\w+)::(?:\{([^}]*)\}|(\w+));", text, re.M):
+        for name in filter(None, map(str.strip, (several or one).split(","))):
+            if re.fullmatch(r"[A-Z]\w*", name):
+                found[name] = crate if path == "crate" else path
+    return found
+
+
+ALIAS = r"^(?:pub(?:\(\w+\))? )?type .*"
+
+
+def alias_at(text, start, line):
+    """A type's other name may stand for no loan: what is lent behind a name, no clause would be asked for."""
+    if re.search(r"[&']|\bdyn\b", text[start:text.find(";", start)]):
+        raise Unread(f"a loan behind the name of '{line.strip()}'")
 
 
 def functions_in(file, prefix, folder, public):
@@ -129,6 +152,8 @@ def functions_in(file, prefix, folder, public):
         if re.match(r"\s*(pub(\(\w+\))? )?mod .*\{", line):
             raise Unread(f"a module in braces, '{line.strip()}': give it a file")
         item = re.match(r"( *)pub (.*)", line)
+        if re.match(ALIAS, line):
+            alias_at(text, start, line)
         if not item or re.match(r"(struct|enum|trait|type) |const \w+: |\w+: ", item[2]):
             continue
         module = re.fullmatch(r"mod (\w+);", item[2])
@@ -148,6 +173,9 @@ def functions_of(folder, crate):
         if re.search(r"^\s*impl\b[^{]*\bModel\b", file.read_text("utf-8"), re.M):
             raise Unread(f"an `impl Model` in {file.name}: a clause would read a value as something else")
     for file in sorted(set(folder.rglob("*.rt")) - public):
+        private = without_comments(file.read_text("utf-8"))
+        for alias in re.finditer(ALIAS, private, re.M):
+            alias_at(private, alias.start(), alias[0])
         if re.search(r"^\s*pub .*\bfn |^\s*(pub(\(\w+\))? )?mod .*\{", file.read_text("utf-8"), re.M):
             raise Unread(f"a public function, or a module in braces, in the private module {file.name}: pub(crate) is meant")
 
@@ -159,6 +187,41 @@ def public_functions(tree):
             yield from functions_of(folder, crate)
         except Unread as why:
             raise Unread(f"crates/{crate}/src: {why}") from None
+
+
+# ---- types
+
+# what the language's own numbers are in a definition
+NUMBERS = {"f64": ("lib.Ieee", "Float")} | {f"u{bits}": ("Prim.Native.Nat", "ℕ") for bits in (8, 16, 32, 64, "size")}
+
+
+def apart(text):
+    """The parts of a text between its outermost commas."""
+    parts, depth = [""], 0
+    for letter in text:
+        depth += (letter in "(<[") - (letter in ")>]")
+        if letter == "," and not depth:
+            parts.append("")
+        else:
+            parts[-1] += letter
+    return [part.strip() for part in parts]
+
+
+def held(function):
+    """Where the types stand that a function's Option or Result holds, in order; None where this check can't tell."""
+    outer = re.fullmatch(r"(?:Option|Result)<(.*)>", function.answers)
+    first = apart(outer[1])[0] if outer else ""
+    inner = re.fullmatch(r"\((.+)\)", first)
+    places = [type_place(function, name) for name in (apart(inner[1]) if inner else [first])]
+    return None if None in places else tuple(places)
+
+
+def type_place(function, name):
+    if name in NUMBERS:
+        return NUMBERS[name]
+    path = re.fullmatch(r"(?:(\w+)::)?([A-Z]\w*)", name)
+    crate = path and (path[1] or function.named.get(path[2]))
+    return (f"crates/{crate}/specs/declared/{path[2]}.antt", path[2]) if crate else None
 
 
 # ---- equations
