@@ -25,7 +25,7 @@ pub fn listing(deck: &[u8], out: &mut [u8]) -> usize
     ensures value { result ≡ length (listing.listing_of deck.now) }
     ensures out_after { out.new ≡ handed_in (listing.listing_of deck.now) out.old }
 {
-    let mut whole = [0; ROOM];
+    let mut whole = blank();
     let mut page = Page {
         bytes: &mut whole,
         at: 0,
@@ -33,6 +33,13 @@ pub fn listing(deck: &[u8], out: &mut [u8]) -> usize
     write(deck, &mut page);
     let end = page.at;
     pieces::hand(&whole[..end], out)
+}
+
+// A page with room for any listing. A function of its own: its promise is what holds `ROOM` to the longest one.
+fn blank() -> [u8; ROOM]
+    ensures { listing.longest_listing ≡ length result }
+{
+    [0; ROOM]
 }
 
 // The listing.
