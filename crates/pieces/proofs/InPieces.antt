@@ -11,6 +11,10 @@ pub record InPieces (start : Page) (whole : List ℕ) (page : Page) (left : List
   pub inside : page.at ≤ length page.bytes.now
   to_come : written page left ≡ written start whole
 
+-- what is lent stays as long as it was
+pub as_long : {start page : Page} {whole left : List ℕ} → InPieces start whole page left → length page.bytes.now ≡ length start.bytes.now
+as_long {start = start} {page = page} {whole = whole} {left = left} g = sym (pages.as_long page left) ∙ ap (λ (p : Page). length p.bytes.now) g.to_come ∙ pages.as_long start whole
+
 -- before the first piece
 pub nothing_yet : {page : Page} (whole : List ℕ) → page.at ≤ length page.bytes.now → InPieces page whole page whole
 nothing_yet whole h = record { inside = h; to_come = refl }

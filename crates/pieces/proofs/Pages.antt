@@ -29,6 +29,11 @@ pub stays : (p : Page) (s : List ℕ) → (written p s).bytes.ghost_name ≡ p.b
 unfolding written
 stays p s = refl
 
+-- what is lent stays as long as it was
+pub as_long : (p : Page) (s : List ℕ) → length (written p s).bytes.now ≡ length p.bytes.now
+unfolding written
+as_long p s = laws.as_long {before = p.bytes.now} {piece = s} {at = p.at} (record { ends = refl; holds = refl })
+
 -- a piece ends inside
 pub inside : (p : Page) (s : List ℕ) → (written p s).at ≤ length (written p s).bytes.now
 unfolding written

@@ -9,7 +9,7 @@ use native.Mathlib.Omega.{arith}
 use borrow.Author.Tests.{leb-true, leb-false, le-leb}
 use lib.Dec.{leb}
 use lib.ListN.{length, take, drop, set, length-append, length-set}
-use lib.Seq.{sets, length-sets, sets-eq, set_out, set_comm, drop-drop, length-take-le, take-append_seam}
+use lib.Seq.{sets, length-sets, sets-eq, set_out, set_comm, drop-drop, length-take-le, take-length, take-append_seam}
 use borrow.Rule.Slice.PartMut.{put_mid}
 use Rattle.pieces.specs.Pieces.{joined, put_in, end_in, Put, handed_in}
 
@@ -180,6 +180,10 @@ as_far l at s {start} {n} {piece} b m e =
       ends = omega arith;
       holds = over l start n piece (omega arith) long ∙ ap (sets l start) e ∙ cut l start s n (omega arith) ∙ ap (λ (k : ℕ). sets l k s) b ∙ clamped l at s;
     }
+
+-- all of a piece, where there is room for it
+pub all_of : (l : List ℕ) (at : ℕ) (s : List ℕ) {start : ℕ} {piece : List ℕ} → start ≡ min at (length l) → length s ≤ length l - start → piece ≡ s → Put l at s (put_mid start (start + length s - start) l piece) (start + length s)
+all_of l at s {start} b h e = as_far l at s b (omega arith) (e ∙ sym (take-length s))
 
 -- a writer's two equations are one piece written, and a piece written is two equations
 pub wrote : {before after piece : List ℕ} {at end : ℕ} → (end ≡ end_in before at piece) × (after ≡ put_in before at piece) → Put before at piece after end

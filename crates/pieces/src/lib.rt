@@ -15,8 +15,21 @@ pub struct Page<'a> {
     pub at: usize,
 }
 
-// Puts s into a page, as far as the page goes.
+// Puts s into a page, as far as the page goes: at once where there is room for all of it, so that the copy of a piece
+// whose length is known needs no call.
 pub fn put(page: &mut Page, s: &[u8])
+    ensures { page.new ≡ written page.old s.now }
+{
+    let start = page.at.min(page.bytes.len());
+    if page.bytes.len() - start < s.len() {
+        return put_as_far(page, s);
+    }
+    page.bytes[start..start + s.len()].copy_from_slice(s);
+    page.at = start + s.len();
+}
+
+// As much of s as there is room for.
+fn put_as_far(page: &mut Page, s: &[u8])
     ensures { page.new ≡ written page.old s.now }
 {
     let start = page.at.min(page.bytes.len());

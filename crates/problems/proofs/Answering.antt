@@ -23,7 +23,7 @@ use Rattle.layout.proofs.Packed.{kinds_behind, bodies_behind}
 use Rattle.predicted.specs.Predicted.{card_of, first_card, kind_placed, with_body}
 use Rattle.predicted.proofs.First.{placed}
 use Rattle.problems.specs.Problems.{cards_for}
-use Rattle.problems.proofs.Widths.{one_left}
+use Rattle.problems.proofs.Widths.{one_inside}
 
 -- the card of the problem at place i, as the last of the first i + 1
 last_card : (v : Version) (i : ℕ) (problems : List ℕ) → cards_for v (suc i) problems ≡ cards_for v i problems ++ (card_of (take (given_size v) (drop (given_size v * i) problems)) ∷ [])
@@ -48,12 +48,13 @@ pub some : (v : Version) → 0 < given_size v
 some v = omega arith
 
 module _ (v : Version) (problems : List ℕ) (i : ℕ) (left : i < length problems / given_size v) where
-  -- while a problem is left, its bytes are there
-  room : given_size v * i + given_size v ≤ length problems
-  room = one_left (given_size v) (some v) i (length problems) left
+  -- while a problem is left, there is a place for its kind
+  pub room : {kinds₀ : List ℕ} {first : Page} {kinds : List ℕ} {page : Page} → Answering v problems kinds₀ first kinds page i → length problems / given_size v ≤ length kinds₀ → i + 1 ≤ length kinds
+  room s most = omega (arith, left, most, pieces.as_long s.listed)
 
+  -- and its bytes are there
   pub whole : given_size v ≤ length (drop (given_size v * i) problems)
-  whole = omega (arith, length-drop (given_size v * i) problems, room)
+  whole = omega (arith, length-drop (given_size v * i) problems, one_inside (given_size v) (some v) i (length problems) left)
 
   -- its card
   next_card : cards_for v i problems ++ (card_of (take (given_size v) (drop (given_size v * i) problems)) ∷ []) ≡ cards_for v (i + 1) problems
@@ -69,8 +70,7 @@ module _ (v : Version) (problems : List ℕ) (i : ℕ) (left : i < length proble
       let card = card_of (take (given_size v) (drop (given_size v * i) problems)) in
       let p = placed v (drop (given_size v * i) problems) whole page e w in
       let number = ap (λ (m : ℕ). kinds_of cards ++ (m ∷ [])) (k ∙ ap kind_number p.0) in
-      let place : i + 1 ≤ length kinds = omega (arith, left, most, pieces.as_long s.listed) in
       record {
-        listed = renamed (number ∙ sym (kinds_behind cards card) ∙ ap kinds_of next_card) (puts s.listed (at_once kinds i (n ∷ []) place));
+        listed = renamed (number ∙ sym (kinds_behind cards card) ∙ ap kinds_of next_card) (puts s.listed (at_once kinds i (n ∷ []) (room s most)));
         laid = rw (p.1, s.laid, two) (ap (written first) (sym (bodies_behind cards card) ∙ ap bodies_of next_card));
       }

@@ -75,7 +75,8 @@ fn in_little_room(version: Version, problems: &[u8], buffer: &mut [u8]) -> Resul
         bytes: buffer,
         at: 0,
     };
-    pieces::put(&mut front, &page.bytes[..end]);
+    // From the array itself, which is no part of the buffer: through the page, the copy would ask C for `memmove`.
+    pieces::put(&mut front, &whole[..end]);
     Ok(front.at)
 }
 

@@ -1,7 +1,8 @@
--- `pieces::put` meets its contract: from the piece's place on, or from the end on, as much is written over as there is room for.
-use Rattle.pieces.proofs.Puts.{as_far}
+-- `pieces::put` meets its contract: where there is room for all of the piece it is written over as many bytes from its place on.
+use native.Mathlib.Omega.{arith}
+use Rattle.pieces.proofs.Puts.{all_of}
 use Rattle.pieces.proofs.Pages.{fields}
 use Rattle.pieces.proofs.put.Goals as goal
 
 pub returns : goal.returns
-returns c = fields (as_far c.args.page.now.bytes.now c.args.page.now.at c.args.s.now c.min-start.ensures c.min-n.ensures c.copy_from_slice.ensures.after)
+returns c = fields (all_of c.args.page.now.bytes.now c.args.page.now.at c.args.s.now c.min-start.ensures (omega arith) c.copy_from_slice.ensures.after)
