@@ -28,6 +28,7 @@ pub fn whole(page: &mut Page, n: u64)
 }
 
 // A space, and n in decimal, with `-` before the digits where it is negative.
+#[tactic(auto, using(crate::proofs::Digits::spelt))]
 pub fn signed(page: &mut Page, n: i64)
     ensures { page.new ≡ written page.old (text.signed n) }
 {
